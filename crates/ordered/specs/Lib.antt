@@ -1,0 +1,4 @@
+pub mod Arranged
+pub mod Behind
+pub mod Listed
+pub mod Ranks

@@ -1,0 +1,3 @@
+// Examples of the ordered list, run as tests.
+#[cfg(test)]
+mod tests;

@@ -1,0 +1,13 @@
+pub mod Bounds
+pub mod Candidates
+pub mod Claims
+pub mod Distinct
+pub mod Draws
+pub mod Example
+pub mod Kept
+pub mod Odd
+pub mod Register
+pub mod Rows
+pub mod Shares
+pub mod TimeOrder
+pub mod Totals
