@@ -1,11 +1,15 @@
+ghost use mathlib.Core.List.{map};
 ghost use mathlib.Core.Path.{_≡_};
+ghost use Prim.Native.Nat.{min};
 ghost use lib.ListN.{length};
+ghost use Rattle.share.specs.Asked.{claimsOf, Asked};
 ghost use Rattle.share.specs.Rules.{sharesUnder, asked-code};
 ghost use Rattle.sharing.specs.Register.{codeOf};
 ghost use Rattle.share.specs.Answers.{Answered, Failed};
 ghost use Rattle.std.specs.Of.String.{string-bytes};
 ghost use Rattle.std.specs.Of.Vec.{vec-items};
 ghost use Rattle.std.specs.Results.{Cases};
+ghost use Rattle.std.specs.Vec.{made};
 use super::failure::Failure;
 use super::failure::FailureFromAlloc;
 use super::failure::FailureFromParse;
@@ -37,12 +41,16 @@ pub struct Request {
 }
 
 // The number of the claim at a place; past the largest number there is none, and that one is refused.
-fn number(place: usize) -> u16 {
+fn number(place: usize) -> u16
+    ensures { λ r. ⌜ r ≡ min place 65535 ⌝ }
+{
     place.min(65_535) as u16
 }
 
 // The claims of those lots, numbered from 0 in the order given.
-fn claims(heap: Global, lots: &[String]) -> Result<Vec<Claim>, Failure> {
+fn claims(heap: Global, lots: &[String]) -> Result<Vec<Claim>, Failure>
+    ensures { λ r. ⌜ made r (λ v. vec-items v ≡ claimsOf (map string-bytes (now (lots .entry)))) ⌝ }
+{
     let mut claims = Vec::new(heap);
     for i in 0..lots.len() {
         let lots = lots[i].as_str().parse::<u32>()?;
@@ -55,7 +63,9 @@ fn claims(heap: Global, lots: &[String]) -> Result<Vec<Claim>, Failure> {
 }
 
 // What the words ask for: RULE AMOUNT STRIDE SHIFT LOTS...
-pub fn read(heap: Global, words: &[String]) -> Result<Request, Failure> {
+pub fn read(heap: Global, words: &[String]) -> Result<Request, Failure>
+    ensures { λ r. ⌜ made r (λ q. Asked (map string-bytes (now (words .entry))) q) ⌝ }
+{
     if words.len() < 4 {
         return Err(Failure::Usage);
     }
