@@ -1,0 +1,5 @@
+pub mod Register
+pub mod Kinds
+pub mod Buyers
+pub mod Filing
+pub mod Steps
