@@ -85,7 +85,7 @@ impl Kind {
     }
 
     // Answers whether the time is after the window, and within the day.
-    pub(crate) fn is_over_at(self, time: u32) -> bool
+    pub fn is_over_at(self, time: u32) -> bool
         ensures { λ r. ⌜ r ≡ over-at self time ⌝ }
     {
         self.row().ends < time && time <= DAY_ENDS
