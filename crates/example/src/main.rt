@@ -1,11 +1,15 @@
 // A small tender from filing to closing, as a caller of the library runs it.
+mod allotting;
 mod script;
 mod show;
 
+use allotting::show_run;
 use book::Book;
 use book::Call;
 use script::NO_OFFER;
 use script::calls;
+use script::financing_calls;
+use script::general_calls;
 use show::show_answer;
 use show::show_call;
 use show::show_member_offer;
@@ -85,21 +89,33 @@ fn run(rt: &LibcRuntime, tender: Open, buyers: &[Buyer]) -> io::Result<()> {
     close(rt, tender)
 }
 
-// Files the tender, opens it and runs it.
-fn start(rt: &LibcRuntime) -> io::Result<()> {
-    let terms = Terms {
-        kind: b'G',
-        method: 1,
-        shortfall: b'T',
-        unit: 1_000,
-        previous_close: 4_000,
-        bank_closing: 55_800,
-    };
+// The terms of a general tender.
+const GENERAL: Terms = Terms {
+    kind: b'G',
+    method: 1,
+    shortfall: b'T',
+    unit: 1_000,
+    previous_close: 4_000,
+    bank_closing: 55_800,
+};
+
+// The terms of a financing tender.
+const FINANCING: Terms = Terms {
+    kind: b'F',
+    method: 2,
+    shortfall: b'T',
+    unit: 1_000,
+    previous_close: 4_000,
+    bank_closing: 64_800,
+};
+
+// Files the tender, opens it and trades on it, call by call.
+fn trade_by_hand(rt: &LibcRuntime) -> io::Result<()> {
     let buyers = [Buyer {
         account: 7,
         lots: 10,
     }];
-    let filed = match file(&terms, &buyers) {
+    let filed = match file(&GENERAL, &buyers) {
         Ok(filed) => filed,
         Err(refusal) => return println!(rt, "file: refused {}", refusal.number()),
     };
@@ -108,6 +124,33 @@ fn start(rt: &LibcRuntime) -> io::Result<()> {
         Some(tender) => run(rt, tender, &buyers),
         None => Ok(()),
     }
+}
+
+// Trades by hand, and then has whole tenders run: a general one, and a financing one for three firms.
+fn start(rt: &LibcRuntime) -> io::Result<()> {
+    trade_by_hand(rt)?;
+    println!(rt, "a general tender for 10 lots")?;
+    let buyer = Buyer {
+        account: 7,
+        lots: 10,
+    };
+    show_run(rt, &GENERAL, &[buyer], 4_200, &general_calls(), 57_600)?;
+    println!(rt, "a financing tender for 5, 3 and 2 lots")?;
+    let firms = [
+        Buyer {
+            account: 7,
+            lots: 5,
+        },
+        Buyer {
+            account: 8,
+            lots: 3,
+        },
+        Buyer {
+            account: 9,
+            lots: 2,
+        },
+    ];
+    show_run(rt, &FINANCING, &firms, 4_400, &financing_calls(), 54_000)
 }
 
 fn main(rt: LibcRuntime) -> io::Result<()> {

@@ -63,3 +63,26 @@ pub fn calls() -> [Call; 13] {
         cancel(54_100, *b"BBBB", 2),
     ]
 }
+
+// Answers the entries of a general tender of which the last is refused: three offers tie at the marginal price.
+pub fn general_calls() -> [Call; 6] {
+    [
+        enter(54_000, *b"AAAA", 20, 4_000, 7),
+        enter(54_000, *b"AAAA", 20, 4_100, 4),
+        enter(54_000, *b"AAAA", 20, 4_100, 1),
+        enter(54_000, *b"AAAA", 20, 4_100, 1),
+        enter(54_000, *b"AAAA", 20, 4_150, 5),
+        enter(54_000, *b"AAAA", 20, 4_201, 1),
+    ]
+}
+
+// Answers the calls of a financing tender that ends in a shortage.
+pub fn financing_calls() -> [Call; 5] {
+    [
+        enter(52_200, *b"AAAA", 20, 4_300, 4),
+        enter(52_300, *b"BBBB", 21, 4_310, 2),
+        enter(52_400, *b"CCCC", 22, 4_310, 3),
+        change(52_500, *b"CCCC", 2, 4_310, 1),
+        enter(54_000, *b"BBBB", 21, 4_300, 1),
+    ]
+}

@@ -1,0 +1,5 @@
+pub mod Accepted
+pub mod Buyers
+pub mod Filed
+pub mod Promises
+pub mod Rows

@@ -1,0 +1,12 @@
+pub mod Arriving
+pub mod Choice
+pub mod Near
+pub mod Pass
+pub mod Pinned
+pub mod Scatter
+pub mod Steps
+pub mod Telescope
+pub mod Ties
+pub mod Total
+pub mod Whole
+pub mod Worth

@@ -1,0 +1,5 @@
+pub mod Offered
+pub mod Fills
+pub mod Receipts
+pub mod Theorems
+pub mod Arrivals
