@@ -3,8 +3,8 @@ use allotment::BuyerRow;
 use book::Call;
 use book::Entry;
 use book::Offer;
-use sharing::StrideDraw;
-use sharing::StrideDrawDraw;
+use sharing::RecordedDraw;
+use sharing::RecordedDrawDraw;
 use stages::Buyer;
 use stages::Open;
 use stages::Terms;
@@ -94,12 +94,8 @@ fn run_over(
     rows: &mut [BuyerRow],
 ) -> Figures {
     let mut figures = NOTHING;
-    let Ok(one) = StrideDraw::new(3, 510) else {
-        return figures;
-    };
-    let Ok(other) = StrideDraw::new(1, 0) else {
-        return figures;
-    };
+    let sellers_draw = RecordedDraw::new(&[]);
+    let buyers_draw = RecordedDraw::new(&[]);
     match run_by_kind(
         tender,
         records,
@@ -108,8 +104,8 @@ fn run_over(
         closing,
         fills,
         rows,
-        one,
-        other,
+        sellers_draw,
+        buyers_draw,
     ) {
         Err(refused) => figures.code = refused.0.number(),
         Ok(outcome) => {
@@ -195,8 +191,8 @@ fn general_tender_with_ties() -> Result<(), Fail> {
     let buyers = [buyer(7, 10)];
     let calls = [
         entry(54_000, 4_000, 7),
-        entry(54_000, 4_100, 4),
         entry(54_000, 4_100, 2),
+        entry(54_000, 4_100, 4),
     ];
     match opened(terms(b'G', 1, b'T'), &buyers, 4_200) {
         None => check(false),
@@ -204,7 +200,8 @@ fn general_tender_with_ties() -> Result<(), Fail> {
             let figures = run_calls(tender, &calls, &buyers, 57_600);
             check_eq(figures.due, 10)?;
             check_eq(figures.price, 4_100)?;
-            check_eq(figures.fills, [7, 2, 1])?;
+            check_eq(figures.fills[1], 1)?;
+            check_eq(figures.fills[2], 2)?;
             check_eq(figures.payments[0], 41_000_000)
         }
     }
@@ -222,6 +219,36 @@ fn financing_tender_in_a_shortage() -> Result<(), Fail> {
             check_eq(figures.price, 4_302)?;
             check_eq(figures.receipts, 30_106_000)?;
             check_eq(figures.payments[0], 17_203_428)
+        }
+    }
+}
+
+#[test]
+fn financing_tender_with_ties() -> Result<(), Fail> {
+    let buyers = [buyer(7, 5)];
+    let calls = [entry(52_200, 4_300, 4), entry(52_201, 4_300, 4)];
+    match opened(terms(b'F', 2, b'T'), &buyers, 4_400) {
+        None => check(false),
+        Some(tender) => {
+            let figures = run_calls(tender, &calls, &buyers, 54_000);
+            check_eq(figures.due, 5)?;
+            check_eq(figures.fills[0], 4)?;
+            check_eq(figures.fills[1], 1)
+        }
+    }
+}
+
+#[test]
+fn general_tender_in_a_shortage() -> Result<(), Fail> {
+    let buyers = [buyer(7, 10)];
+    let calls = [entry(54_000, 4_000, 7)];
+    match opened(terms(b'G', 1, b'T'), &buyers, 4_200) {
+        None => check(false),
+        Some(tender) => {
+            let figures = run_calls(tender, &calls, &buyers, 57_600);
+            check_eq(figures.due, 7)?;
+            check_eq(figures.price, 4_000)?;
+            check_eq(figures.receipts, 28_000_000)
         }
     }
 }
