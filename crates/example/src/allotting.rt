@@ -89,7 +89,7 @@ fn show_outcome(
 }
 
 // Runs a tender from its opening to its allotment under the rules of its kind, and prints what comes of it.
-pub fn show_run(
+pub(crate) fn show_run(
     rt: &LibcRuntime,
     terms: &Terms,
     buyers: &[Buyer],

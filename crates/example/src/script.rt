@@ -46,7 +46,7 @@ fn cancel(time: u32, member: [u8; 4], number: u16) -> Call {
 }
 
 // Answers the calls, those that will be refused among them.
-pub fn calls() -> [Call; 13] {
+pub(crate) fn calls() -> [Call; 13] {
     [
         enter(53_999, *b"AAAA", 20, 4_000, 7),
         enter(54_000, *b"AAAA", 20, 4_000, 7),
@@ -65,7 +65,7 @@ pub fn calls() -> [Call; 13] {
 }
 
 // Answers the entries of a general tender of which the last is refused: three offers tie at the marginal price.
-pub fn general_calls() -> [Call; 6] {
+pub(crate) fn general_calls() -> [Call; 6] {
     [
         enter(54_000, *b"AAAA", 20, 4_000, 7),
         enter(54_000, *b"AAAA", 20, 4_100, 4),
@@ -77,7 +77,7 @@ pub fn general_calls() -> [Call; 6] {
 }
 
 // Answers the calls of a financing tender that ends in a shortage.
-pub fn financing_calls() -> [Call; 5] {
+pub(crate) fn financing_calls() -> [Call; 5] {
     [
         enter(52_200, *b"AAAA", 20, 4_300, 4),
         enter(52_300, *b"BBBB", 21, 4_310, 2),

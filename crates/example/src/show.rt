@@ -13,7 +13,7 @@ fn show_member(rt: &LibcRuntime, member: [u8; 4]) -> io::Result<()> {
 }
 
 // Prints a call, to be followed by its answer.
-pub fn show_call(rt: &LibcRuntime, call: Call) -> io::Result<()> {
+pub(crate) fn show_call(rt: &LibcRuntime, call: Call) -> io::Result<()> {
     match call {
         Call::Enter(e) => {
             print!(rt, "{} ", e.time)?;
@@ -38,7 +38,10 @@ pub fn show_call(rt: &LibcRuntime, call: Call) -> io::Result<()> {
 }
 
 // Prints the number that an entry is given, that a call is done, or the number under which it is refused.
-pub fn show_answer(rt: &LibcRuntime, answer: Result<Option<u16>, Refusal>) -> io::Result<()> {
+pub(crate) fn show_answer(
+    rt: &LibcRuntime,
+    answer: Result<Option<u16>, Refusal>,
+) -> io::Result<()> {
     match answer {
         Ok(Some(number)) => println!(rt, "number {number}"),
         Ok(None) => println!(rt, "done"),
@@ -47,7 +50,7 @@ pub fn show_answer(rt: &LibcRuntime, answer: Result<Option<u16>, Refusal>) -> io
 }
 
 // Finds an offer of the member, and prints its number and its sheet.
-pub fn show_member_offer(rt: &LibcRuntime, book: &Book, member: [u8; 4]) -> io::Result<()> {
+pub(crate) fn show_member_offer(rt: &LibcRuntime, book: &Book, member: [u8; 4]) -> io::Result<()> {
     show_member(rt, member)?;
     match book.find(member) {
         Some(number) => println!(rt, " has offer {number}")?,
@@ -64,7 +67,7 @@ pub fn show_member_offer(rt: &LibcRuntime, book: &Book, member: [u8; 4]) -> io::
 }
 
 // Prints the standing offers in their order.
-pub fn show_offers(rt: &LibcRuntime, book: &Book) -> io::Result<()> {
+pub(crate) fn show_offers(rt: &LibcRuntime, book: &Book) -> io::Result<()> {
     println!(
         rt,
         "{} offers stand, {} lots, of {} accepted",

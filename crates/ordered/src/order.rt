@@ -20,14 +20,14 @@ pub trait Order {
 }
 
 // Answers whether x comes strictly ahead of y, which may not stand before it.
-pub fn ahead<T: Order>(x: &T, y: &T) -> bool
+pub(crate) fn ahead<T: Order>(x: &T, y: &T) -> bool
     ensures { λ r. ⌜ r ≡ not (before (now (y .entry)) (now (x .entry))) ⌝ }
 {
     !y.at_or_before(x)
 }
 
 // Answers whether each of the two records may stand before the other.
-pub fn same_rank<T: Order>(x: &T, y: &T) -> bool
+pub(crate) fn same_rank<T: Order>(x: &T, y: &T) -> bool
     ensures { λ r. ⌜ r ≡ same-rank before (now (x .entry)) (now (y .entry)) ⌝ }
 {
     x.at_or_before(y) && y.at_or_before(x)

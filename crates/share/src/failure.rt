@@ -20,8 +20,10 @@ pub enum Failure {
 }
 
 impl Failure {
-    // Says what failed: a refusal on standard output, the rest on standard error.
-    pub fn told(self, rt: &LibcRuntime) -> Failure {
+    // Says what failed, a refusal on standard output and the rest on standard error, and hands it on.
+    pub fn told(self, rt: &LibcRuntime) -> Failure
+        ensures { λ r. ⌜ r ≡ self ⌝ }
+    {
         let _ = match &self {
             Failure::Usage => eprintln!(
                 rt,

@@ -74,7 +74,7 @@ fn push_total(text: &mut String, heap: Global, total: u64) -> Result<(), AllocEr
 }
 
 // The text that tells what was shared out.
-pub fn report(
+pub(crate) fn report(
     heap: Global,
     rule: Rule,
     amount: u32,
