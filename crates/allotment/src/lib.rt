@@ -1,4 +1,6 @@
 // What a closed tender allots: fills by offer, and a row for each buyer.
+#![tactic(auto)]
+
 mod buyer_claims;
 mod fill;
 mod filling;

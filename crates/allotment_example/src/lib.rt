@@ -1,4 +1,6 @@
 // A worked example of a tender.
+#![tactic(auto)]
+
 ghost use Rattle.allotment_example.specs.Example.{WorkedExample};
 
 // The definitions give the figures of the worked example.

@@ -1,4 +1,6 @@
 // The laws of an allotment, below the code that is held to them.
+#![tactic(auto)]
+
 ghost use Rattle.allotment_theory.specs.Arrivals.{InPriority};
 ghost use Rattle.allotment_theory.specs.Theorems.{Allots, Cheapest, FillsCut, FillsRow, FillsTotal, Gathers, OneFill, OnePrice, PassEnds, PassFinds, PaymentsNear, PaymentsTotal, ReceiptsFit, ReceiptsWorth, ScatterTotal, TiesAdmissible, WorthBounded};
 

@@ -1,4 +1,6 @@
 // The offers of an open tender, in a book that takes entries, changes and cancellations.
+#![tactic(auto)]
+
 pub mod book;
 pub mod call;
 pub mod cancel;

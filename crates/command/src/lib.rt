@@ -1,4 +1,6 @@
 // What the programs over a tender file share: reading their input, and ending with their answer.
+#![tactic(auto)]
+
 mod ending;
 mod failure;
 mod input;

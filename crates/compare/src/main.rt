@@ -1,4 +1,6 @@
 // Runs the product and the reference on the same tenders, draws, sharings and settlements, and compares every figure.
+#![tactic(auto)]
+
 mod cases;
 mod damage;
 mod dice;

@@ -1,4 +1,6 @@
 // Makes a tender file of a text: one line a frame, the frames on standard output.
+#![tactic(auto)]
+
 mod code;
 mod encode;
 mod failure;

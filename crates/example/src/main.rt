@@ -1,4 +1,6 @@
 // A small tender from filing to closing, as a caller of the library runs it.
+#![tactic(auto)]
+
 mod allotting;
 mod script;
 mod show;

@@ -1,4 +1,6 @@
 // The faults of a tender file, in three layers: its frames, their order, and the rules.
+#![tactic(auto)]
+
 pub mod fault;
 pub mod layer;
 

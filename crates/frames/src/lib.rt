@@ -1,4 +1,6 @@
 // Frames: a one-byte tag, a two-byte length with the high byte first, and that many bytes.
+#![tactic(auto)]
+
 pub mod fault;
 pub mod layout;
 pub mod reader;

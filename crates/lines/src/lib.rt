@@ -1,4 +1,6 @@
 // The text that tells of a run: its log line, its fault line, and its statement.
+#![tactic(auto)]
+
 mod answers;
 mod choices;
 mod fault;

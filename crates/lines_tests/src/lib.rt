@@ -1,3 +1,5 @@
 // Lines and statements of short tender files. The tests stand in a crate of their own, so that the others are not proved twice.
+#![tactic(auto)]
+
 #[cfg(test)]
 mod tests;

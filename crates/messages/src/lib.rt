@@ -1,4 +1,6 @@
 // The messages of a tender file, and a reader and a writer of them.
+#![tactic(auto)]
+
 pub mod message;
 pub mod reader;
 pub mod writer;

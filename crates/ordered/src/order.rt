@@ -20,14 +20,14 @@ pub trait Order {
 
 // Answers whether x comes strictly ahead of y, which may not stand before it.
 pub(crate) fn ahead<T: Order>(x: &T, y: &T) -> bool
-    ensures { result ≡ not (before y.now x.now) }
+    ensures { result ≡ not (T.before y.now x.now) }
 {
     !y.at_or_before(x)
 }
 
 // Answers whether each of the two records may stand before the other.
 pub(crate) fn same_rank<T: Order>(x: &T, y: &T) -> bool
-    ensures { result ≡ same_rank before x.now y.now }
+    ensures { result ≡ same_rank T.before x.now y.now }
 {
     x.at_or_before(y) && y.at_or_before(x)
 }

@@ -1,5 +1,7 @@
 // The rules of tender purchases written a second time, as plainly as possible. Nothing here is shared with the product, and
 // nothing here is meant to be fast: a program runs both and compares what they answer.
+#![tactic(auto)]
+
 mod allotting;
 mod data;
 mod filing;

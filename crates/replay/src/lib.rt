@@ -1,4 +1,6 @@
 // A tender file from its bytes to a report or a fault.
+#![tactic(auto)]
+
 mod heading;
 mod reading;
 mod report;

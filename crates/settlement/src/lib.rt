@@ -1,4 +1,6 @@
 // Settlement of a tender: bills, slips, and what a late payment or a default costs.
+#![tactic(auto)]
+
 mod billing;
 mod charge;
 mod receipt;

@@ -1,4 +1,6 @@
 // A financing tender run whole and then settled, as a caller of the library does it; and the worked examples of all layers.
+#![tactic(auto)]
+
 mod financing;
 mod settling;
 mod worked;

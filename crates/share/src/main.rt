@@ -1,4 +1,6 @@
 // Shares an amount among claims under a named rule, and prints what each claim gets.
+#![tactic(auto)]
+
 mod failure;
 mod report;
 mod request;
@@ -6,7 +8,8 @@ mod rule;
 
 use failure::Failure;
 use request::{answer, read};
-use std::{env, io};
+use std::env;
+use std::process::ExitCode;
 
 // The arguments, without the program's name.
 fn words(rt: &HostRuntime) -> Result<Vec<String>, Failure> {
@@ -24,12 +27,20 @@ fn run(rt: &HostRuntime) -> Result<String, Failure> {
     answer(heap, &request)
 }
 
-fn main(rt: HostRuntime) -> Result<(), Failure> {
-    match run(&rt) {
+// Prints what was asked for, or says what failed.
+fn end(rt: &HostRuntime) -> Result<(), Failure> {
+    match run(rt) {
         Ok(text) => {
             print!(rt; "{text}")?;
             Ok(())
         }
-        Err(failure) => Err(failure.told(&rt)),
+        Err(failure) => Err(failure.told(rt)),
+    }
+}
+
+fn main(rt: HostRuntime) -> ExitCode {
+    match end(&rt) {
+        Ok(()) => ExitCode::SUCCESS,
+        Err(_) => ExitCode::FAILURE,
     }
 }

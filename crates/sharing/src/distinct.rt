@@ -5,7 +5,7 @@ use super::numbered::Numbered;
 
 // Whether no two of the items have the same number.
 pub fn all_distinct<T: Numbered>(items: &[T]) -> bool
-    ensures { result ≡ distinct (map numbered items.now) }
+    ensures { result ≡ distinct (map T.numbered items.now) }
 {
     for i in 0..items.len() {
         let number = items[i].number();

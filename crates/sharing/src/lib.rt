@@ -1,4 +1,6 @@
 // Draws, and rules that share an amount among claims.
+#![tactic(auto)]
+
 mod admit;
 mod candidate;
 mod claim;

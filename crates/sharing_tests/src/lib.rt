@@ -1,3 +1,5 @@
 // Examples of the sharing rules and draws, run as tests.
+#![tactic(auto)]
+
 #[cfg(test)]
 mod tests;

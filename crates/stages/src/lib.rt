@@ -1,4 +1,6 @@
 // A tender from filing to closing: its terms, its buyers, and its states as types.
+#![tactic(auto)]
+
 pub mod buyers;
 mod choices;
 pub mod closed;

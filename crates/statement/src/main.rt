@@ -1,4 +1,6 @@
 // Runs the tender of a file, and prints its statement, or the line of the fault that the file comes to.
+#![tactic(auto)]
+
 ghost use Rattle.command.specs.Ending.{Concludes};
 ghost use Rattle.lines.specs.Statement.{statement_of};
 

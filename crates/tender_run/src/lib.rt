@@ -1,4 +1,6 @@
 // A whole tender: every call in turn on a fresh book, the closing, and the allotment.
+#![tactic(auto)]
+
 mod by_kind;
 mod calls;
 mod running;

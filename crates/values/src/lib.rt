@@ -1,4 +1,6 @@
 // The values of the frames of a tender file, decoded and encoded.
+#![tactic(auto)]
+
 pub mod amount;
 pub mod buyer;
 pub mod cancellation;

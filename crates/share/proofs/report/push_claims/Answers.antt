@@ -10,7 +10,7 @@ loop-i-preserved c =
     let cs = c.args.claims.now in
     let shares = c.args.shares.now in
     let i = c.loop-i.i in
-    c.in-ok-push-claim.ensures
+    c.in_ok-push_claim.ensures
     ∙ ap (λ text. text ++ claim_line (get_or cs i nobody) (get_or shares i 0)) c.loop-i.invariant
     ∙ lines_more (string_bytes c.args.text.now) cs shares i c.requires c.loop-i-test.true
 

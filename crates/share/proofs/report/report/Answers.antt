@@ -13,14 +13,14 @@ returns c =
     let n = length cs in
     let all = capped (claimed cs) in
     let word = rule_word c.args.rule in
-    let shared_is : c.min-shared.result ≡ min c.args.amount all = omega (arith, c.min-shared.ensures, c.claimed-lots-all.ensures) in
+    let shared_is : c.min-shared.result ≡ min c.args.amount all = omega (arith, c.min-shared.ensures, c.claimed_lots-all.ensures) in
     let first =
-    c.in-ok-text.ensures
-    ∙ ap (λ (w : List ℕ). heading w c.min-shared.result c.claimed-lots-all.result n) c.word.ensures
-    ∙ ap (λ (k : ℕ). heading word k c.claimed-lots-all.result n) shared_is
-    ∙ ap (λ (k : ℕ). heading word (min c.args.amount all) k n) c.claimed-lots-all.ensures in
-    let middle = c.in-ok-push-claims.ensures ∙ ap (λ (text : List ℕ). text ++ claim_lines cs shares) first in
-    c.in-ok-push-total.ensures
+    c.in_ok-text.ensures
+    ∙ ap (λ (w : List ℕ). heading w c.min-shared.result c.claimed_lots-all.result n) c.word.ensures
+    ∙ ap (λ (k : ℕ). heading word k c.claimed_lots-all.result n) shared_is
+    ∙ ap (λ (k : ℕ). heading word (min c.args.amount all) k n) c.claimed_lots-all.ensures in
+    let middle = c.in_ok-push_claims.ensures ∙ ap (λ (text : List ℕ). text ++ claim_lines cs shares) first in
+    c.in_ok-push_total.ensures
     ∙ ap (λ (text : List ℕ). text ++ total_line c.total.result) middle
     ∙ ap (λ (k : ℕ). (heading word (min c.args.amount all) all n ++ claim_lines cs shares) ++ total_line k) c.total.ensures
     ∙ append_assoc (heading word (min c.args.amount all) all n) (claim_lines cs shares) (total_line (capped (sum shares)))

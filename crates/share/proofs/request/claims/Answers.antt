@@ -17,9 +17,9 @@ loop-i-preserved c =
     let long = length-map c.args.lots.now string_bytes in
     let lt : i < length words = omega arith in
     let there : get_or words i [] ≡ word = word_at string_bytes c.args.lots.now i c.index-lots-i.result c.loop-i-test.true c.index-lots-i.is in
-    let lots_is : c.in-ok-lots.lots ≡ numeral word = c.in-ok-lots.ensures.value.0.1 ∙ ap numeral c.as-str.ensures.value in
-    let claim_is = ap (λ (n : ℕ). make n c.in-ok-lots.lots) c.number.ensures ∙ ap (make _) lots_is ∙ ap (claim_at i) (sym there) in
-    c.in-ok-push.ensures.items
+    let lots_is : c.in_ok-lots.lots ≡ numeral word = c.in_ok-lots.ensures.value.0.1 ∙ ap numeral c.as_str.ensures.value in
+    let claim_is = ap (λ (n : ℕ). make n c.in_ok-lots.lots) c.number.ensures ∙ ap (make _) lots_is ∙ ap (claim_at i) (sym there) in
+    c.in_ok-push.ensures.items
     ∙ ap (λ (x : Claim). vec_items c.loop-i.claims ++ x ∷ []) claim_is
     ∙ ap (λ (xs : List Claim). xs ++ claim_at i (get_or words i []) ∷ []) c.loop-i.invariant
     ∙ sym (lined_more claim_at words i [] lt)

@@ -14,9 +14,9 @@ returns c =
     let at_3 = word_at string_bytes texts 3 c.index-words-3.result (omega arith) c.index-words-3.is in
     let rest = ap (map string_bytes) (take_all (length texts - 4) (drop 4 texts) (omega (arith, length-drop 4 texts))) ∙ sym (drop-map string_bytes 4 texts) in
     record {
-      rule = ap named (at_0 ∙ sym c.as-str.ensures.value) ∙ sym c.in-Some.ensures;
-      amount = c.in-ok-amount.ensures.value.0.1 ∙ ap numeral (c.as-str-2.ensures.value ∙ sym at_1);
-      stride = c.in-ok-stride.ensures.value.0.1 ∙ ap numeral (c.as-str-3.ensures.value ∙ sym at_2);
-      shift = c.in-ok-shift.ensures.value.0.1 ∙ ap numeral (c.as-str-4.ensures.value ∙ sym at_3);
-      claims = c.in-ok-claims.ensures ∙ ap claims_of rest;
+      rule = ap named (at_0 ∙ sym c.as_str.ensures.value) ∙ sym c.in-Some.ensures;
+      amount = c.in_ok-amount.ensures.value.0.1 ∙ ap numeral (c.as_str-2.ensures.value ∙ sym at_1);
+      stride = c.in_ok-stride.ensures.value.0.1 ∙ ap numeral (c.as_str-3.ensures.value ∙ sym at_2);
+      shift = c.in_ok-shift.ensures.value.0.1 ∙ ap numeral (c.as_str-4.ensures.value ∙ sym at_3);
+      claims = c.in_ok-claims.ensures ∙ ap claims_of rest;
     }

@@ -19,8 +19,8 @@ ranks d e stride shift same made =
 pub returns-in-Proportional : goal.returns-in-Proportional
 returns-in-Proportional c =
     let cs = c.args.claims.now in
-    let drawn = c.in-ok-draw.ensures in
-    let rank_is = ranks c.new-proportional.result.draw c.in-ok-draw.draw c.args.stride c.args.shift c.new-proportional.ensures drawn.made in
+    let drawn = c.in_ok-draw.ensures in
+    let rank_is = ranks c.new-proportional.result.draw c.in_ok-draw.draw c.args.stride c.args.shift c.new-proportional.ensures drawn.made in
     let rule_is = sym (ap (λ (r : Rule). shares_under r c.args.stride c.args.shift cs c.args.amount) c.in-Proportional.is) in
     record {
       code = c.share.ensures.code ∙ then-claims _ _ drawn.code;
@@ -30,8 +30,8 @@ returns-in-Proportional c =
 pub returns-in-Remainder : goal.returns-in-Remainder
 returns-in-Remainder c =
     let cs = c.args.claims.now in
-    let drawn = c.in-ok-draw.ensures in
-    let rank_is = ranks c.new-remainder.result.draw c.in-ok-draw.draw c.args.stride c.args.shift c.new-remainder.ensures drawn.made in
+    let drawn = c.in_ok-draw.ensures in
+    let rank_is = ranks c.new-remainder.result.draw c.in_ok-draw.draw c.args.stride c.args.shift c.new-remainder.ensures drawn.made in
     let rule_is = sym (ap (λ (r : Rule). shares_under r c.args.stride c.args.shift cs c.args.amount) c.in-Remainder.is) in
     record {
       code = c.share-in-Remainder.ensures.code ∙ then-claims _ _ drawn.code;

@@ -3,10 +3,16 @@ use Rattle.stages.proofs.Demands.{demand_fits}
 use Rattle.stages.proofs.Ranges.{in_ranges, buyers_few}
 use Rattle.stages.proofs.filing.file.Goals as goal
 
-pub invariant-of-particulars : goal.invariant-of-particulars
-invariant-of-particulars c =
+pub invariant_of-particulars : goal.invariant_of-particulars
+invariant_of-particulars c =
     let bs = c.args.buyers.now in
-    let terms = in_ranges c.args.terms.now (sym c.if-not-ranges-fit.ensures) in
-    let few = buyers_few c.in-Some.choices.kind bs (sym c.if-not-buyers-fit.ensures) in
-    let demand = demand_fits bs (sym c.if-not-lots-fit.ensures) few.0 in
-    (terms.units, (terms.closes, (terms.banks, (few, ((omega (arith, c.total.ensures), omega (arith, c.total.ensures)), tt)))))
+    let terms = in_ranges c.args.terms.now (sym c.if-not-ranges_fit.ensures) in
+    let few = buyers_few c.in-Some.choices.kind bs (sym c.if-not-buyers_fit.ensures) in
+    let demand = demand_fits bs (sym c.if-not-lots_fit.ensures) few.0 in
+    record {
+      units = terms.units;
+      closes = terms.closes;
+      banks = terms.banks;
+      counts = few;
+      demands = (omega (arith, c.total.ensures), omega (arith, c.total.ensures));
+    }

@@ -15,7 +15,7 @@ returns c =
     let n = space c.args.self.now in
     let m = model_of c.args.self.now in
     let x = c.args.cancellation in
-    let judged = c.in-ok-at.ensures in
+    let judged = c.in_ok-at.ensures in
     let list : listed c.remove-gone.new.self ≡ without x.number m.list = c.remove-gone.ensures.list ∙ judged.place.1 in
     let new : List Offer → Model = λ l. record { list = l; count = m.count; time = x.time } in
     let state : new (listed c.remove-gone.new.self) ≡ cancelled t n m x = ap new list ∙ sym (taken_new (cancel_code t n m x) (new (without x.number m.list)) m judged.code) in

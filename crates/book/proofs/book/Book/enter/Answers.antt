@@ -20,7 +20,7 @@ returns c =
     let m = model_of c.args.self.now in
     let e = c.args.entry in
     let bs = c.args.buyers.now in
-    let judged = c.in-ok-judge-entry.ensures in
+    let judged = c.in_ok-judge_entry.ensures in
     let new : List Offer → Model = λ l. record { list = l; count = m.count + 1; time = e.time } in
     let state : Sound m → new (listed c.insert-placed.new.self) ≡ entered t n m e bs = λ s.
     let short : length m.list < n = omega (arith, s.few, judged.room.0, judged.room.1) in

@@ -4,7 +4,7 @@ use Rattle.book.specs.Model.{model_of, space, has_number}
 use Rattle.book.proofs.Listing.{nth_within}
 use Rattle.book.proofs.Searching.{ahead_none, found_here, ahead_more, ahead_all, stands_on_512}
 use Rattle.book.proofs.book.Book.seek.Goals as goal
-use Rattle.book.proofs.book.Book.seek.Goals.{in-Some+else-offer-number, in-default}
+use Rattle.book.proofs.book.Book.seek.Goals.{in-Some+else-offer-number, in_default}
 
 pub loop-i-init : goal.loop-i-init
 loop-i-init c = ahead_none (has_number c.args.number) (model_of c.args.self.now).list
@@ -23,7 +23,7 @@ loop-i-preserved c =
     elim c.match-get.branch [
       | in-Some+else-offer-number w ↦
           ahead_more (has_number c.args.number) xs c.loop-i.i w.in-Some.offer lt w.in-Some.ensures (ne_eqb w.in-Some.offer.number c.args.number w.if-offer-number.false) c.loop-i.invariant
-      | in-default w ↦ absurd (nth_within xs c.loop-i.i lt w.in-default.ensures)
+      | in_default w ↦ absurd (nth_within xs c.loop-i.i lt w.in_default.ensures)
     ]
 
 pub returns : goal.returns

@@ -6,7 +6,7 @@ use Rattle.book.specs.Model.{model_of}
 use Rattle.book.specs.Offers.{capped, supplied}
 use Rattle.book.proofs.Listing.{nth_within, read_at}
 use Rattle.book.proofs.book.Book.supply.Goals as goal
-use Rattle.book.proofs.book.Book.supply.Goals.{in-Some, in-default}
+use Rattle.book.proofs.book.Book.supply.Goals.{in-Some, in_default}
 
 pub loop-i-preserved : goal.loop-i-preserved
 loop-i-preserved c =
@@ -17,8 +17,8 @@ loop-i-preserved c =
           let o = w.in-Some.offer in
           let here = ap (λ (x : Offer). x.lots) (read_at xs c.loop-i.i o lt w.in-Some.ensures) in
           let more = sum_by_more (λ (x : Offer). x.lots) xs c.loop-i.i o lt in
-          omega (arith, w.all-is, w.saturating-add-all.ensures)
-      | in-default w ↦ absurd (nth_within xs c.loop-i.i lt w.in-default.ensures)
+          omega (arith, w.all-is, w.saturating_add-all.ensures)
+      | in_default w ↦ absurd (nth_within xs c.loop-i.i lt w.in_default.ensures)
     ]
 
 pub returns : goal.returns
