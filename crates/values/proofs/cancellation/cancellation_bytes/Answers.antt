@@ -10,5 +10,5 @@ returns c =
     let long : length x.member ≡ 4 = search rules in
     let time : Word x.time = search rules in
     let number : Half x.number = search rules in
-    let bytes = cancellation_laid x c.to-be-bytes-time.result c.to-be-bytes-number.result long c.to-be-bytes-time.ensures c.to-be-bytes-number.ensures in
+    let bytes = cancellation_laid x c.to_be_bytes-time.result c.to_be_bytes-number.result long c.to_be_bytes-time.ensures c.to_be_bytes-number.ensures in
     record { bytes = bytes; back = ap cancellation_in bytes ∙ cancellation_there x long time number }

@@ -12,5 +12,5 @@ returns c =
     let account : Word x.account = search rules in
     let price : Word x.price = search rules in
     let lots : Word x.lots = search rules in
-    let bytes = entry_laid x c.to-be-bytes-time.result c.to-be-bytes-account.result c.to-be-bytes-price.result c.to-be-bytes-lots.result long c.to-be-bytes-time.ensures c.to-be-bytes-account.ensures c.to-be-bytes-price.ensures c.to-be-bytes-lots.ensures in
+    let bytes = entry_laid x c.to_be_bytes-time.result c.to_be_bytes-account.result c.to_be_bytes-price.result c.to_be_bytes-lots.result long c.to_be_bytes-time.ensures c.to_be_bytes-account.ensures c.to_be_bytes-price.ensures c.to_be_bytes-lots.ensures in
     record { bytes = bytes; back = ap entry_in bytes ∙ entry_there x long time account price lots }
