@@ -15,12 +15,12 @@ use Rattle.messages.specs.Messages.{tag_of, value_bytes, message_bytes, message_
 abbrev pub file_of : MessageReader → List ℕ
 file_of r = r.reader.file.now
 
-abbrev pub place_of : MessageReader → ℕ
-place_of r = r.reader.at
+abbrev pub next_place : MessageReader → ℕ
+next_place r = r.reader.at
 
 -- A file of up to 65,536 bytes is read from its start. A longer one is refused.
 abbrev pub OpenedAt : List ℕ → Result MessageReader FrameFault → Type 0
-OpenedAt file (Ok r) = (length file ≤ 65536) × (file_of r ≡ file) × (place_of r ≡ 0)
+OpenedAt file (Ok r) = (length file ≤ 65536) × (file_of r ≡ file) × (next_place r ≡ 0)
 OpenedAt file (Err e) = (65536 < length file) × (e ≡ TooLong)
 
 -- What a tag and a value say: the message with just that tag and those bytes, unless the tag is unknown or has another length.

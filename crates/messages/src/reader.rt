@@ -1,6 +1,6 @@
 // Reading a tender file message by message.
 ghost use Rattle.std.specs.Prelude.{◌≡◌, OnErr};
-ghost use Rattle.messages.specs.Reading.{file_of, place_of, OpenedAt, NextMessage};
+ghost use Rattle.messages.specs.Reading.{file_of, next_place, OpenedAt, NextMessage};
 
 use super::message::{LAYOUTS, Message, message_in};
 use frames::{FrameFault, Reader};
@@ -29,14 +29,14 @@ impl<'a> MessageReader<'a> {
 
     // Answers the place of the next message.
     pub fn place(&self) -> usize
-        ensures { result ≡ place_of self.now }
+        ensures { result ≡ next_place self.now }
     {
         self.reader.place()
     }
 
     // Answers the next message, or none at the end of the file. A fault leaves the reader where it was.
     pub fn next(&mut self) -> Result<Option<Placed>, FrameFault>
-        ensures next { NextMessage (file_of self.old) (place_of self.old) result (place_of self.new) }
+        ensures next { NextMessage (file_of self.old) (next_place self.old) result (next_place self.new) }
         ensures file { file_of self.new ≡ file_of self.old }
         ensures unchanged { OnErr result (self.new ≡ self.old) }
     {

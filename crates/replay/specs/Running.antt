@@ -19,7 +19,7 @@ use Rattle.tender_run.specs.Promise.{RunPromise}
 use Rattle.tender_run.specs.Runs.{rule_of}
 use Rattle.values.specs.declared.draw.DrawNumbers.{DrawNumbers}
 use Rattle.messages.specs.declared.reader.MessageReader.{MessageReader}
-use Rattle.messages.specs.Reading.{file_of, place_of}
+use Rattle.messages.specs.Reading.{file_of, next_place}
 use Rattle.faults.specs.declared.fault.OrderFault.{OrderFault}
 use Rattle.faults.specs.declared.fault.ProgramFault.{ProgramFault}
 use Rattle.replay.specs.declared.heading.Drawing.{Drawing}
@@ -110,5 +110,5 @@ Replayed file (Err e) = ComesTo file (faulted e)
 
 -- a reader at the start of the file, or the fault that the file comes to
 abbrev pub ReaderAt : List ℕ → Result MessageReader OrderFault → Type 0
-ReaderAt file (Ok r) = (length file ≤ 65536) × (file_of r ≡ file) × (place_of r ≡ 0)
+ReaderAt file (Ok r) = (length file ≤ 65536) × (file_of r ≡ file) × (next_place r ≡ 0)
 ReaderAt file (Err e) = ComesTo file (Faulty (order_layer e) (order_number e) (order_place e))

@@ -3,7 +3,7 @@ ghost use Rattle.std.specs.Prelude.{◌≡◌, length};
 ghost use Rattle.stages.specs.Filing.{AsFiled, filing_code};
 ghost use Rattle.stages.specs.Steps.{opening_code};
 ghost use Rattle.sharing.specs.Draws.{stride_code};
-ghost use Rattle.messages.specs.Reading.{file_of, place_of};
+ghost use Rattle.messages.specs.Reading.{file_of, next_place};
 ghost use Rattle.replay.specs.Running.{Headed, OpenedAt, faulted};
 ghost use Rattle.replay.specs.Heading.{FiledAt, DrawnAt, StepOpened};
 
@@ -60,7 +60,7 @@ pub(crate) fn read_tender<'a>(
     buyers: &mut [Buyer],
 ) -> Result<Drawing, ProgramFault>
     requires { length buyers.old ≡ 8 }
-    ensures headed { Headed (file_of reader.old) (place_of reader.old) buyers.new result (place_of reader.new) }
+    ensures headed { Headed (file_of reader.old) (next_place reader.old) buyers.new result (next_place reader.new) }
     ensures file { file_of reader.new ≡ file_of reader.old }
 {
     let terms = read_terms(reader)?;
@@ -82,7 +82,7 @@ pub(crate) fn read_opening<'a>(
     reader: &mut MessageReader<'a>,
     filed: Filed,
 ) -> Result<Open, ProgramFault>
-    ensures opened { OpenedAt (file_of reader.old) (place_of reader.old) filed.particulars result (place_of reader.new) }
+    ensures opened { OpenedAt (file_of reader.old) (next_place reader.old) filed.particulars result (next_place reader.new) }
     ensures file { file_of reader.new ≡ file_of reader.old }
 {
     let opening = read_base(reader)?;

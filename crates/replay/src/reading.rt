@@ -1,7 +1,7 @@
 // The messages of a tender file, read in their order.
 ghost use Rattle.std.specs.Prelude.{◌≡◌, ◌≤◌, [], length};
 ghost use Rattle.messages.specs.declared.message.Message.TheVariants.{Draw, Open as Opens};
-ghost use Rattle.messages.specs.Reading.{file_of, place_of};
+ghost use Rattle.messages.specs.Reading.{file_of, next_place};
 ghost use Rattle.replay.specs.Reading.{BuyersRead, CallsRead, EndRead, MessageRead, TermsRead, BaseRead};
 
 use book::Call;
@@ -12,7 +12,7 @@ use values::DrawNumbers;
 
 // Reads the next message. The file may not end here.
 fn next<'a>(reader: &mut MessageReader<'a>) -> Result<Placed, OrderFault>
-    ensures read { MessageRead (file_of reader.old) (place_of reader.old) result (place_of reader.new) }
+    ensures read { MessageRead (file_of reader.old) (next_place reader.old) result (next_place reader.new) }
     ensures file { file_of reader.new ≡ file_of reader.old }
 {
     match reader.next()? {
@@ -23,7 +23,7 @@ fn next<'a>(reader: &mut MessageReader<'a>) -> Result<Placed, OrderFault>
 
 // Reads the terms.
 pub(crate) fn read_terms<'a>(reader: &mut MessageReader<'a>) -> Result<Terms, OrderFault>
-    ensures read { TermsRead (file_of reader.old) (place_of reader.old) result (place_of reader.new) }
+    ensures read { TermsRead (file_of reader.old) (next_place reader.old) result (next_place reader.new) }
     ensures file { file_of reader.new ≡ file_of reader.old }
 {
     let placed = next(reader)?;
@@ -49,7 +49,7 @@ pub(crate) fn read_buyers<'a>(
     buyers: &mut [Buyer],
 ) -> Result<Heading, OrderFault>
     requires { length buyers.old ≡ 8 }
-    ensures read { BuyersRead (file_of reader.old) (place_of reader.old) buyers.new result (place_of reader.new) }
+    ensures read { BuyersRead (file_of reader.old) (next_place reader.old) buyers.new result (next_place reader.new) }
     ensures file { file_of reader.new ≡ file_of reader.old }
     ensures room { length buyers.new ≡ 8 }
 {
@@ -78,7 +78,7 @@ pub(crate) fn read_buyers<'a>(
 
 // Reads the base price, and answers it with its place.
 pub(crate) fn read_base<'a>(reader: &mut MessageReader<'a>) -> Result<(u32, usize), OrderFault>
-    ensures read { BaseRead (file_of reader.old) (place_of reader.old) result (place_of reader.new) }
+    ensures read { BaseRead (file_of reader.old) (next_place reader.old) result (next_place reader.new) }
     ensures file { file_of reader.new ≡ file_of reader.old }
 {
     let placed = next(reader)?;
@@ -105,7 +105,7 @@ pub(crate) fn read_calls<'a>(
 ) -> Result<Ending, OrderFault>
     requires room { length calls.old ≡ 5041 }
     requires short { length (file_of reader.old) ≤ 65536 }
-    ensures read { CallsRead (file_of reader.old) (place_of reader.old) calls.new result (place_of reader.new) }
+    ensures read { CallsRead (file_of reader.old) (next_place reader.old) calls.new result (next_place reader.new) }
     ensures file { file_of reader.new ≡ file_of reader.old }
     ensures room { length calls.new ≡ 5041 }
 {
@@ -131,7 +131,7 @@ pub(crate) fn read_calls<'a>(
 
 // Reads that nothing stands behind the closing.
 pub(crate) fn read_end<'a>(reader: &mut MessageReader<'a>) -> Result<(), OrderFault>
-    ensures read { EndRead (file_of reader.old) (place_of reader.old) result }
+    ensures read { EndRead (file_of reader.old) (next_place reader.old) result }
 {
     match reader.next()? {
         Some(placed) => Err(OrderFault::OutOfOrder(placed.place)),

@@ -5,7 +5,7 @@ ghost use Rattle.stages.specs.Steps.{closing_code};
 ghost use Rattle.sharing.specs.Shares.{largest_remainder};
 ghost use Rattle.tender_run.specs.Promise.{RunPromise};
 ghost use Rattle.tender_run.specs.Runs.{rule_of};
-ghost use Rattle.messages.specs.Reading.{file_of, place_of};
+ghost use Rattle.messages.specs.Reading.{file_of, next_place};
 ghost use Rattle.replay.specs.Heading.{Refused};
 ghost use Rattle.replay.specs.Running.{RunRead, RunStops};
 
@@ -73,8 +73,8 @@ pub(crate) fn run_open<'a, D: Draw + Drop, E: Draw + Drop>(
     requires fills { length fills.old ≡ 512 }
     requires rows { length rows.old ≡ 8 }
     requires buyers { as_filed tender.particulars buyers.now ≡ true }
-    ensures read { IfOk result (λ o. D.Draw.sound sellers_draw → E.Draw.sound buyers_draw → RunRead (file_of reader.old) (place_of reader.old) (rule_of tender.particulars.kind (D.Draw.rank_of sellers_draw)) (largest_remainder (E.Draw.rank_of buyers_draw)) tender buyers.now o records.new fills.new rows.new) }
-    ensures fault { IfErr result (λ e. RunStops (file_of reader.old) (place_of reader.old) tender buyers.now e) }
+    ensures read { IfOk result (λ o. D.Draw.sound sellers_draw → E.Draw.sound buyers_draw → RunRead (file_of reader.old) (next_place reader.old) (rule_of tender.particulars.kind (D.Draw.rank_of sellers_draw)) (largest_remainder (E.Draw.rank_of buyers_draw)) tender buyers.now o records.new fills.new rows.new) }
+    ensures fault { IfErr result (λ e. RunStops (file_of reader.old) (next_place reader.old) tender buyers.now e) }
 {
     let ending = read_calls(reader, calls)?;
     let count = ending.count;

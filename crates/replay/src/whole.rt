@@ -1,6 +1,6 @@
 // A whole tender file.
 ghost use Rattle.std.specs.Prelude.{◌≡◌, ◌≤◌, length};
-ghost use Rattle.messages.specs.Reading.{file_of, place_of};
+ghost use Rattle.messages.specs.Reading.{file_of, next_place};
 ghost use Rattle.replay.specs.Files.{OneVerdict};
 ghost use Rattle.replay.specs.Running.{Replayed, ReplayedInto, ReaderAt};
 
@@ -68,7 +68,7 @@ fn run_into<'a>(
     rows: &mut [BuyerRow],
 ) -> Result<Ran, ProgramFault>
     requires short { length (file_of reader.old) ≤ 65536 }
-    requires start { place_of reader.old ≡ 0 }
+    requires start { next_place reader.old ≡ 0 }
     requires buyers { length buyers.old ≡ 8 }
     requires calls { length calls.old ≡ 5041 }
     requires records { length records.old ≡ 512 }

@@ -9,18 +9,18 @@ use Rattle.allotment_theory.proofs.Steps.{tied_here, tied_past}
 use Rattle.allotment.proofs.fill.collect_tied.Goals as goal
 use Rattle.allotment.proofs.fill.collect_tied.Goals.{then-offer-price, else-offer-price}
 
-pub loop-i-preserved : goal.loop-i-preserved
+pub loop-i-preserved : goal.loop_i_preserved
 loop-i-preserved c =
     let os = (model_of c.args.book.now).list in
     let i = c.loop-i.i in
     let p = c.args.price in
     let lt : i < length os = omega arith in
-    let claim = ap claim_of c.offer-at-offer.ensures in
-    let price = ap (λ (o : Offer). o.price) c.offer-at-offer.ensures in
+    let claim = ap claim_of c.offer_at-offer.ensures in
+    let price = ap (λ (o : Offer). o.price) c.offer_at-offer.ensures in
     let was = c.loop-i.invariant.1 in
     elim c.if-offer-price.branch [
       | then-offer-price w ↦
-          let put = take_more_set c.loop-i.claims c.loop-i.n (claim_of c.offer-at-offer.result) (omega arith) in
+          let put = take_more_set c.loop-i.claims c.loop-i.n (claim_of c.offer_at-offer.result) (omega arith) in
           let more = tied_here p os i lt (sym price ∙ w.if-offer-price.true) in
           (omega arith, rw (w.n-is, w.claims-is) (cc))
       | else-offer-price w ↦

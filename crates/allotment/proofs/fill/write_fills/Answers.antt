@@ -7,7 +7,7 @@ use Rattle.allotment_theory.proofs.Steps.{Left, write_here, write_past, write_en
 use Rattle.allotment.proofs.fill.write_fills.Goals as goal
 use Rattle.allotment.proofs.fill.write_fills.Goals.{then-offer-price, else-offer-price}
 
-pub loop-i-preserved : goal.loop-i-preserved
+pub loop-i-preserved : goal.loop_i_preserved
 loop-i-preserved c =
     let p = c.args.price in
     let os = (model_of c.args.book.now).list in
@@ -15,10 +15,10 @@ loop-i-preserved c =
     let i = c.loop-i.i in
     let n = c.loop-i.n in
     let lt : i < length os = omega arith in
-    let x = c.fill-one-lots.result in
-    let offer = c.offer-at-offer.ensures in
+    let x = c.fill_one-lots.result in
+    let offer = c.offer_at-offer.ensures in
     let price = ap (λ (o : Offer). o.price) offer in
-    let is : x ≡ fill_one p (get_or os i nothing) (get_or ss n 0) = c.fill-one-lots.ensures ∙ ap (λ (o : Offer). fill_one p o c.lots-at.result) offer ∙ ap (fill_one p (get_or os i nothing)) c.lots-at.ensures in
+    let is : x ≡ fill_one p (get_or os i nothing) (get_or ss n 0) = c.fill_one-lots.ensures ∙ ap (λ (o : Offer). fill_one p o c.lots_at.result) offer ∙ ap (fill_one p (get_or os i nothing)) c.lots_at.ensures in
     let put = c.put.ensures ∙ ap (λ (o : Offer). set c.loop-i.fills o.number x) offer in
     let was = c.loop-i.invariant.1 in
     elim c.if-offer-price.branch [

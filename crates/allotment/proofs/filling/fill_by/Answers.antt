@@ -14,7 +14,7 @@ returns g c =
       filled = λ ok long sound.
           let shared : c.share.new.shares ≡ g.S.SharingRule.shares_of c.args.rule.now c.args.claims.now c.args.amount =
           at_accepted c.share.result _ _ _ (λ _ h. h sound) (c.share.ensures.code ∙ accepts c.args.claims.now (length c.args.shares.now) ok long) c.share.ensures.shared in
-          c.write-fills.ensures
-          ∙ ap (λ (l : List ℕ). scattered os (filled p os l) c.clear-fills.new.fills) shared
-          ∙ ap (λ (l : List ℕ). scattered os (filled p os (g.S.SharingRule.shares_of c.args.rule.now c.args.claims.now c.args.amount)) l) c.clear-fills.ensures;
+          c.write_fills.ensures
+          ∙ ap (λ (l : List ℕ). scattered os (filled p os l) c.clear_fills.new.fills) shared
+          ∙ ap (λ (l : List ℕ). scattered os (filled p os (g.S.SharingRule.shares_of c.args.rule.now c.args.claims.now c.args.amount)) l) c.clear_fills.ensures;
     }

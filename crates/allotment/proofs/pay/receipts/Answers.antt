@@ -8,15 +8,15 @@ use Rattle.allotment_theory.specs.Offered.{nothing}
 use Rattle.allotment_theory.specs.Receipts.{paid_at, receipts_of}
 use Rattle.allotment.proofs.pay.receipts.Goals as goal
 
-pub loop-i-preserved : goal.loop-i-preserved
+pub loop-i-preserved : goal.loop_i_preserved
 loop-i-preserved c =
     let os = (model_of c.args.book.now).list in
     let unit = c.args.unit in
     let lt : c.loop-i.i < length os = omega arith in
     let f : Offer → ℕ = λ o. get_or c.args.fills.now o.number 0 * unit * paid_at c.args.method c.args.price o in
     let more = sum_by_more f os c.loop-i.i nothing lt in
-    let is = ap f c.offer-at-offer.ensures in
-    let here : c.lots-at-lots.result * unit * c.price-paid-each.result ≡ f (get_or os c.loop-i.i nothing) = cc in
+    let is = ap f c.offer_at-offer.ensures in
+    let here : c.lots_at-lots.result * unit * c.price_paid-each.result ≡ f (get_or os c.loop-i.i nothing) = cc in
     omega arith
 
 pub returns : goal.returns

@@ -5,20 +5,20 @@ use Rattle.allotment_theory.specs.Offered.{reaching}
 use Rattle.allotment_theory.proofs.Steps.{reach_here, reach_more, reach_end, some_due}
 use Rattle.allotment.proofs.price.marginal_price.Goals as goal
 
-pub returns-then-left-offer : goal.returns-then-left-offer
+pub returns-then-left-offer : goal.returns_then_left_offer
 returns-then-left-offer c =
     let os = (model_of c.args.book.now).list in
-    let lots = ap (λ (o : Offer). o.lots) c.offer-at-offer.ensures in
+    let lots = ap (λ (o : Offer). o.lots) c.offer_at-offer.ensures in
     let lt : c.loop-i.i < length os = omega arith in
-    ap (λ (o : Offer). Some o.price) c.offer-at-offer.ensures
+    ap (λ (o : Offer). Some o.price) c.offer_at-offer.ensures
     ∙ sym (reach_here os c.loop-i.i c.loop-i.left lt (omega arith))
     ∙ c.loop-i.invariant
     ∙ sym (some_due os c.args.due (λ e. omega arith))
 
-pub loop-i-preserved : goal.loop-i-preserved
+pub loop-i-preserved : goal.loop_i_preserved
 loop-i-preserved c =
     let os = (model_of c.args.book.now).list in
-    let lots = ap (λ (o : Offer). o.lots) c.offer-at-offer.ensures in
+    let lots = ap (λ (o : Offer). o.lots) c.offer_at-offer.ensures in
     let lt : c.loop-i.i < length os = omega arith in
     ap (λ (n : ℕ). reaching (c.loop-i.left - n) (drop (c.loop-i.i + 1) os)) lots
     ∙ sym (reach_more os c.loop-i.i c.loop-i.left lt (omega arith))

@@ -18,26 +18,26 @@ returns g c =
     let wide = length c.args.rows.now in
     let count : length c.share.new.shares ≡ length cs = c.share.auto.shares ∙ c.requires.room in
     record {
-      sellers = c.fill-offers-price.ensures.kept;
+      sellers = c.fill_offers-price.ensures.kept;
       buyers = c.share.ensures.kept;
       computed = λ sound just. record {
         due = c.due-due.ensures;
-        price = c.fill-offers-price.ensures.priced;
-        filled = λ standing long. c.fill-offers-price.ensures.written standing long sound;
-        receipts = c.receipts-receipts.ensures ∙ ap (λ (q : ℕ). capped (receipts_of p.unit (paid_at p.method q) os c.fill-offers-price.new.fills)) c.or-zero.ensures;
+        price = c.fill_offers-price.ensures.priced;
+        filled = λ standing long. c.fill_offers-price.ensures.written standing long sound;
+        receipts = c.receipts-receipts.ensures ∙ ap (λ (q : ℕ). capped (receipts_of p.unit (paid_at p.method q) os c.fill_offers-price.new.fills)) c.or_zero.ensures;
         paid = λ ok le.
-            let shared : c.share.new.shares ≡ g.B.SharingRule.shares_of c.args.shared-among.now cs due =
+            let shared : c.share.new.shares ≡ g.B.SharingRule.shares_of c.args.shared_among.now cs due =
             at_accepted c.share.result _ _ _ (λ _ h. h just) (c.share.ensures.code ∙ accepts cs (length c.args.lots.now) ok c.requires.room) c.share.ensures.shared in
             let fits : sum c.share.new.shares ≤ due = omega (arith, ap sum shared) in
-            ap (λ (k : ℕ). take k c.write-rows.new.rows) (sym count)
-            ∙ c.write-rows.ensures.front fits
-            ∙ ap (λ (b : Bool). rows_of c.receipts-receipts.result due b c.share.new.shares) c.is-billed.ensures
+            ap (λ (k : ℕ). take k c.write_rows.new.rows) (sym count)
+            ∙ c.write_rows.ensures.front fits
+            ∙ ap (λ (b : Bool). rows_of c.receipts-receipts.result due b c.share.new.shares) c.is_billed.ensures
             ∙ ap (rows_of c.receipts-receipts.result due (billed_of p.kind)) shared;
         beyond =
-            ap (λ (k : ℕ). drop k c.write-rows.new.rows) (sym count)
-            ∙ c.write-rows.ensures.back
-            ∙ ap (λ (k : ℕ). drop k c.clear-rows.new.rows) count
-            ∙ ap (drop (length cs)) c.clear-rows.ensures;
+            ap (λ (k : ℕ). drop k c.write_rows.new.rows) (sym count)
+            ∙ c.write_rows.ensures.back
+            ∙ ap (λ (k : ℕ). drop k c.clear_rows.new.rows) count
+            ∙ ap (drop (length cs)) c.clear_rows.ensures;
         fee = refl;
       };
     }

@@ -3,7 +3,7 @@ use Rattle.std.proofs.lemmas.Result.{err_from_is_err_and}
 use Rattle.replay.proofs.Heads.{drawn, filed_for, not_drawn, not_filed}
 use Rattle.replay.proofs.heading.read_tender.Goals as goal
 
-pub returns-in-err-filed : goal.returns-in-err-filed
+pub returns-in-err-filed : goal.returns_in_err_filed
 returns-in-err-filed c =
     let p = err_from_is_err_and c.from-residual-in-err-filed.result c.from-residual-in-err-filed.ensures.1 in
     rw (p.1, p.2) (record {
@@ -13,7 +13,7 @@ returns-in-err-filed c =
       file = c.read-buyers.ensures.file ∙ c.read-terms.ensures.file;
     })
 
-pub returns-in-err-draw : goal.returns-in-err-draw
+pub returns-in-err-draw : goal.returns_in_err_draw
 returns-in-err-draw c =
     let p = err_from_is_err_and c.from-residual-in-err-draw.result c.from-residual-in-err-draw.ensures.1 in
     rw (p.1, p.2) (record {

@@ -3,7 +3,7 @@ use Rattle.replay.proofs.Loops.{ninth, one_buyer, stopped}
 use Rattle.replay.proofs.Tags.{not_filing}
 use Rattle.replay.proofs.reading.read_buyers.Goals as goal
 
-pub loop-placed-preserved : goal.loop-placed-preserved
+pub loop-placed-preserved : goal.loop_placed_preserved
 loop-placed-preserved c = (
   search rules,
   search rules,
@@ -11,7 +11,7 @@ loop-placed-preserved c = (
   λ t. one_buyer _ _ _ _ _ _ t _ _ _ c.loop-placed.invariant.0 c.in-ok-placed.ensures.read c.in-Buyer.is c.if-count-buyers.false c.loop-placed.invariant.1 (c.loop-placed.invariant.3 t),
 )
 
-pub returns-then-count-buyers : goal.returns-then-count-buyers
+pub returns-then-count-buyers : goal.returns_then_count_buyers
 returns-then-count-buyers c = record {
   read = λ t.
       stopped _ _ _ _ _ _ _ _ c.loop-placed.invariant.0 c.in-ok-placed.ensures.read
@@ -20,7 +20,7 @@ returns-then-count-buyers c = record {
   room = search rules;
 }
 
-pub returns-in-default : goal.returns-in-default
+pub returns-in-default : goal.returns_in_default
 returns-in-default c = record {
   read = λ t.
       stopped _ _ _ _ _ _ _ _ c.loop-placed.invariant.0 c.in-ok-placed.ensures.read

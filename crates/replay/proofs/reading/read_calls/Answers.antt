@@ -3,7 +3,7 @@ use Rattle.replay.proofs.Loops.{far, one_call, stopped}
 use Rattle.replay.proofs.Tags.{not_running}
 use Rattle.replay.proofs.reading.read_calls.Goals as goal
 
-pub loop-placed-preserved : goal.loop-placed-preserved
+pub loop-placed-preserved : goal.loop_placed_preserved
 loop-placed-preserved c =
     let found = c.in-ok-placed.ensures.read in
     let on = far _ _ _ _ _ _ found c.in-Call.is c.loop-placed.invariant.2 in
@@ -17,7 +17,7 @@ loop-placed-preserved c =
           (c.loop-placed.invariant.3 t bs d base),
     )
 
-pub returns-in-default : goal.returns-in-default
+pub returns-in-default : goal.returns_in_default
 returns-in-default c = record {
   read = λ t bs d base.
       stopped _ _ _ _ _ _ _ _ c.loop-placed.invariant.0 c.in-ok-placed.ensures.read

@@ -2,18 +2,18 @@ use Rattle.std.proofs.Common.{◌≡◌, ℕ, ◌-◌, ◌*◌, ◌≤◌, List,
 use Rattle.stages.specs.declared.terms.Buyer.{Buyer}
 use Rattle.stages.specs.declared.terms.Terms.{Terms}
 use Rattle.values.specs.declared.draw.DrawNumbers.{DrawNumbers}
-use Rattle.messages.specs.Reading.{file_of, place_of}
+use Rattle.messages.specs.Reading.{file_of, next_place}
 use Rattle.replay.specs.Files.{Leads}
 use Rattle.replay.specs.Stages.Stage.{Running}
 use Rattle.replay.proofs.reading.read_calls.Given as goal
 
-abbrev pub invariant-loop-placed : goal.invariant-loop-placed
+abbrev pub invariant-loop-placed : goal.invariant_loop_placed
 invariant-loop-placed l =
     (file_of l.reader ≡ file_of l.initial.reader) ×
     (length l.calls ≡ 5041) ×
-    (13 * l.count ≤ place_of l.reader) ×
+    (13 * l.count ≤ next_place l.reader) ×
     ((t : Terms) (bs : List Buyer) (d : DrawNumbers) (base : ℕ) →
-    Leads (file_of l.initial.reader) (place_of l.initial.reader) (Running t bs d base []) (place_of l.reader) (Running t bs d base (take l.count l.calls)))
+    Leads (file_of l.initial.reader) (next_place l.initial.reader) (Running t bs d base []) (next_place l.reader) (Running t bs d base (take l.count l.calls)))
 
-abbrev pub decreases-loop-placed : goal.decreases-loop-placed
-decreases-loop-placed l = length (file_of l.reader) - place_of l.reader
+abbrev pub decreases-loop-placed : goal.decreases_loop_placed
+decreases-loop-placed l = length (file_of l.reader) - next_place l.reader

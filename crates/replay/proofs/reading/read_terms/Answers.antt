@@ -6,7 +6,7 @@ use Rattle.replay.proofs.Tags.{not_terms}
 use Rattle.replay.proofs.Walk.{misplaced, past}
 use Rattle.replay.proofs.reading.read_terms.Goals as goal
 
-pub returns-in-Terms : goal.returns-in-Terms
+pub returns-in-Terms : goal.returns_in-Terms
 returns-in-Terms c =
     let found = c.in-ok-placed.ensures.read in
     record {
@@ -14,7 +14,7 @@ returns-in-Terms c =
       file = c.next.ensures.file;
     }
 
-pub returns-in-default : goal.returns-in-default
+pub returns-in-default : goal.returns_in_default
 returns-in-default c = record {
   read = misplaced _ _ _ _ _ c.in-ok-placed.ensures.read (not_terms _ c.in-default.not-Terms);
   file = c.next.ensures.file;

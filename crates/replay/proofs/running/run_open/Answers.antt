@@ -2,7 +2,7 @@ use Rattle.std.proofs.lemmas.Result.{err_from_is_err_and}
 use Rattle.replay.proofs.Ends.{ended_well, not_closed, not_ended}
 use Rattle.replay.proofs.running.run_open.Goals as goal
 
-pub returns-in-err-outcome : goal.returns-in-err-outcome
+pub returns-in-err-outcome : goal.returns_in_err_outcome
 returns-in-err-outcome g c =
     let p = err_from_is_err_and c.from-residual-in-err-outcome.result c.from-residual-in-err-outcome.ensures.1 in
     rw (p.1, p.2) (record {
@@ -10,7 +10,7 @@ returns-in-err-outcome g c =
       fault = λ t d filed. not_closed _ _ t _ d _ _ _ _ _ _ _ (c.in-ok-ending.ensures.read.1 t _ d _) filed c.in-err-outcome.ensures.fault;
     })
 
-pub returns-in-err-read-end : goal.returns-in-err-read-end
+pub returns-in-err-read-end : goal.returns_in_err_read_end
 returns-in-err-read-end g c =
     let p = err_from_is_err_and c.from-residual-in-err-read-end.result c.from-residual-in-err-read-end.ensures.1 in
     rw (p.1, p.2) (record {

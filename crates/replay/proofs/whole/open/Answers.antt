@@ -2,7 +2,7 @@ use Rattle.std.proofs.lemmas.Result.{err_from_is_err_and}
 use Rattle.replay.proofs.Joined.{over_long}
 use Rattle.replay.proofs.whole.open.Goals as goal
 
-pub returns-in-err-reader : goal.returns-in-err-reader
+pub returns-in-err-reader : goal.returns_in_err_reader
 returns-in-err-reader c =
     let p = err_from_is_err_and c.from-residual.result c.from-residual.ensures.1 in
     let h = c.in-err-reader.ensures in

@@ -12,8 +12,8 @@ returns g c = record {
   unchanged = c.run.ensures.unchanged;
   promise =
       met_first c.run.result
-      (λ (o : Outcome). RunPromise in_turn (largest_remainder (g.E.Draw.rank_of c.args.buyers-draw)) c.args.tender c.args.calls.now c.args.buyers.now o c.run.new.records c.run.new.fills c.run.new.rows)
+      (λ (o : Outcome). RunPromise in_turn (largest_remainder (g.E.Draw.rank_of c.args.buyers_draw)) c.args.tender c.args.calls.now c.args.buyers.now o c.run.new.records c.run.new.fills c.run.new.rows)
       (Unit {0}) _ tt
       (subst (λ (d : _). IfOk c.run.result (λ o. Unit {0} → g.E.Draw.sound d → RunPromise in_turn (largest_remainder (g.E.Draw.rank_of d)) c.args.tender c.args.calls.now c.args.buyers.now o c.run.new.records c.run.new.fills c.run.new.rows))
-      c.new-shared-among.ensures c.run.ensures.promise);
+      c.new-shared_among.ensures c.run.ensures.promise);
 }

@@ -6,7 +6,7 @@ use Rattle.book.specs.Told.{tally}
 use Rattle.tender_run.specs.Runs.{with_buyers, taken_of}
 use Rattle.tender_run.proofs.Turns.{tally_more, taken_more, tally_end, taken_end}
 use Rattle.tender_run.proofs.calls.make_calls.Goals as goal
-use Rattle.tender_run.proofs.calls.make_calls.Goals.{then-make-call, else-make-call}
+use Rattle.tender_run.proofs.calls.make_calls.Goals.{then-make_call, else-make_call}
 
 abbrev some_call : Call
 some_call = Enter (record { time = 0; member = []; account = 0; price = 0; lots = 0 })
@@ -14,21 +14,21 @@ some_call = Enter (record { time = 0; member = []; account = 0; price = 0; lots 
 abbrev one_if : Bool → ℕ
 one_if b = cond b 1 0
 
-pub loop-i-preserved : goal.loop-i-preserved
+pub loop-i-preserved : goal.loop_i_preserved
 loop-i-preserved c =
     let t = c.args.tender.now in
     let bs = c.args.buyers.now in
     let calls = c.args.calls.now in
     let i = c.loop-i.i in
     let b = c.loop-i.book in
-    let after = c.make-call.new.book in
-    let did = c.make-call.ensures in
+    let after = c.make_call.new.book in
+    let did = c.make_call.ensures in
     let inv = c.loop-i.invariant in
     let rest = drop (i + 1) calls in
     let lt = c.loop-i-test.true in (
       did.space ∙ inv.0,
       did.named ∙ inv.1,
-      elim c.if-make-call.branch [ then-make-call w ↦ omega (arith, w.accepted-is, inv.2) | else-make-call w ↦ omega (arith, w.accepted-is, inv.2) ],
+      elim c.if-make_call.branch [ then-make_call w ↦ omega (arith, w.accepted-is, inv.2) | else-make_call w ↦ omega (arith, w.accepted-is, inv.2) ],
       λ sound.
           let was = inv.3 sound in
           let told_is = did.state was.0 in (
@@ -39,9 +39,9 @@ loop-i-preserved c =
                 ∙ was.1,
             let one = taken_more t (space b) bs (model_of b) calls i some_call lt in
                 let left = ap (λ (n : ℕ). taken_of t n bs (model_of after) rest) did.space ∙ ap (λ (m : Model). taken_of t (space b) bs m rest) told_is in
-                let count : c.if-make-call.accepted ≡ c.loop-i.accepted + cond c.make-call.result 1 0 = elim c.if-make-call.branch [
-                  | then-make-call w ↦ omega (arith, w.accepted-is, ap one_if w.if-make-call.true)
-                  | else-make-call w ↦ omega (arith, w.accepted-is, ap one_if w.if-make-call.false)
+                let count : c.if-make_call.accepted ≡ c.loop-i.accepted + cond c.make_call.result 1 0 = elim c.if-make_call.branch [
+                  | then-make_call w ↦ omega (arith, w.accepted-is, ap one_if w.if-make_call.true)
+                  | else-make_call w ↦ omega (arith, w.accepted-is, ap one_if w.if-make_call.false)
                 ] in
                 let code = ap one_if did.taken in
                 omega (arith, was.2),

@@ -18,15 +18,15 @@ returns g c =
     let bs = c.args.buyers.now in
     let calls = c.args.calls.now in
     let b = c.args.book.now in
-    let made = c.make-calls-accepted in
+    let made = c.make_calls-accepted in
     let after = made.new.book in
-    let closed_p : c.particulars.result ≡ p = c.particulars.ensures ∙ c.in-ok-closed.ensures.state.0 in
+    let closed_p : c.particulars.result ≡ p = c.particulars.ensures ∙ c.in_ok-closed.ensures.state.0 in
     let sell = g.S.SharingRule.shares_of c.args.sellers.now in
-    let buy = g.B.SharingRule.shares_of c.args.shared-among.now in
-    let did = c.allot-standing-allotted in
+    let buy = g.B.SharingRule.shares_of c.args.shared_among.now in
+    let did = c.allot_standing-allotted in
     record {
-      code = c.in-ok-closed.ensures.code;
-      few = omega (arith, c.copy-standing.ensures.count, listed_within after.list, made.ensures.space);
+      code = c.in_ok-closed.ensures.code;
+      few = omega (arith, c.copy_standing.ensures.count, listed_within after.list, made.ensures.space);
       sellers = did.ensures.sellers;
       buyers = did.ensures.buyers;
       promise = λ start room ask fair just.
@@ -39,8 +39,8 @@ returns g c =
           let kept = did.ensures.promise (subst (λ (q : Particulars). Asked q (length c.args.fills.now) (length c.args.rows.now) bs) (sym closed_p) ask) (made.ensures.sound new) fair just in
           let at_p = subst (λ (q : Particulars). Promise sell buy q (model_of after).list bs did.result did.new.fills did.new.rows) closed_p kept in
           record {
-            standing = ap (λ (k : ℕ). take k c.copy-standing.new.offers) c.copy-standing.ensures.count ∙ c.copy-standing.ensures.front ∙ list;
-            how_many = c.copy-standing.ensures.count ∙ ap length list;
+            standing = ap (λ (k : ℕ). take k c.copy_standing.new.offers) c.copy_standing.ensures.count ∙ c.copy_standing.ensures.front ∙ list;
+            how_many = c.copy_standing.ensures.count ∙ ap length list;
             priority = in_priority t bs calls;
             accepted =
                 made.ensures.taken new
@@ -51,5 +51,5 @@ returns g c =
           };
     }
 
-pub copy-standing-requires : goal.copy-standing-requires
-copy-standing-requires g c = omega (arith, listed_within c.make-calls-accepted.new.book.list, c.make-calls-accepted.ensures.space, c.requires)
+pub copy_standing-requires : goal.copy_standing-requires
+copy_standing-requires g c = omega (arith, listed_within c.make_calls-accepted.new.book.list, c.make_calls-accepted.ensures.space, c.requires)

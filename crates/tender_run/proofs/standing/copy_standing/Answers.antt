@@ -4,9 +4,9 @@ use Rattle.book.specs.declared.offer.Offer.{Offer}
 use Rattle.book.specs.Model.{model_of}
 use Rattle.book.proofs.Listing.{nth_within, read_at}
 use Rattle.tender_run.proofs.standing.copy_standing.Goals as goal
-use Rattle.tender_run.proofs.standing.copy_standing.Goals.{in-Some, in-default}
+use Rattle.tender_run.proofs.standing.copy_standing.Goals.{in-Some, in_default}
 
-pub loop-i-preserved : goal.loop-i-preserved
+pub loop-i-preserved : goal.loop_i_preserved
 loop-i-preserved c =
     let os = (model_of c.args.book.now).list in
     let i = c.loop-i.i in
@@ -20,7 +20,7 @@ loop-i-preserved c =
           ∙ ap (λ (l : List Offer). l ++ o ∷ []) c.loop-i.invariant
           ∙ ap (λ (x : Offer). take i os ++ x ∷ []) (sym read)
           ∙ sym (take_more os i o lt)
-      | in-default w ↦ absurd (nth_within os i lt w.in-default.ensures)
+      | in_default w ↦ absurd (nth_within os i lt w.in_default.ensures)
     ]
 
 pub returns : goal.returns

@@ -8,7 +8,7 @@ pub returns : goal.returns
 returns c =
     let s = c.args.self in
     let t = c.args.time in
-    let is = c.receipt-at.ensures in
+    let is = c.receipt_at.ensures in
     record {
       receipt = is;
       later = λ u le. subst (λ (r : Receipt). NoLess r (receipt_of s u)) (sym is) (costs.later s t u le);
