@@ -6,7 +6,7 @@ use Rattle.allotment.specs.Rows.{claims_of}
 use Rattle.allotment.proofs.Buyers.{claim_step}
 use Rattle.allotment.proofs.buyer_claims.write_claims.Goals as goal
 
-pub loop-i-preserved : goal.loop_i_preserved
+pub loop-i-preserved : goal.loop-i-preserved
 loop-i-preserved c =
     let bs = c.args.buyers.now in
     let i = c.loop-i.i in

@@ -9,7 +9,7 @@ use Rattle.allotment_theory.proofs.Steps.{tied_here, tied_past}
 use Rattle.allotment.proofs.fill.collect_tied.Goals as goal
 use Rattle.allotment.proofs.fill.collect_tied.Goals.{then-offer-price, else-offer-price}
 
-pub loop-i-preserved : goal.loop_i_preserved
+pub loop-i-preserved : goal.loop-i-preserved
 loop-i-preserved c =
     let os = (model_of c.args.book.now).list in
     let i = c.loop-i.i in

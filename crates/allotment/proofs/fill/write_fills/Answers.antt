@@ -7,7 +7,7 @@ use Rattle.allotment_theory.proofs.Steps.{Left, write_here, write_past, write_en
 use Rattle.allotment.proofs.fill.write_fills.Goals as goal
 use Rattle.allotment.proofs.fill.write_fills.Goals.{then-offer-price, else-offer-price}
 
-pub loop-i-preserved : goal.loop_i_preserved
+pub loop-i-preserved : goal.loop-i-preserved
 loop-i-preserved c =
     let p = c.args.price in
     let os = (model_of c.args.book.now).list in

@@ -6,7 +6,7 @@ use Rattle.allotment_theory.proofs.Scatter.{zero_row}
 use Rattle.allotment_theory.proofs.Ties.{ties_admissible}
 use Rattle.allotment.proofs.filling.fill_offers.Goals as goal
 
-pub returns-in-Some : goal.returns_in-Some
+pub returns-in-Some : goal.returns-in-Some
 returns-in-Some g c =
     let os = (model_of c.args.book.now).list in
     let shares = g.S.SharingRule.shares_of c.args.rule.now in
@@ -20,7 +20,7 @@ returns-in-Some g c =
           ∙ ap (λ o. row_of os (fills_by shares c.args.due os o)) (sym some);
     }
 
-pub returns-in-None : goal.returns_in-None
+pub returns-in-None : goal.returns-in-None
 returns-in-None g c =
     let os = (model_of c.args.book.now).list in
     let shares = g.S.SharingRule.shares_of c.args.rule.now in

@@ -8,7 +8,7 @@ use Rattle.allotment_theory.specs.Offered.{nothing}
 use Rattle.allotment_theory.specs.Receipts.{paid_at, receipts_of}
 use Rattle.allotment.proofs.pay.receipts.Goals as goal
 
-pub loop-i-preserved : goal.loop_i_preserved
+pub loop-i-preserved : goal.loop-i-preserved
 loop-i-preserved c =
     let os = (model_of c.args.book.now).list in
     let unit = c.args.unit in

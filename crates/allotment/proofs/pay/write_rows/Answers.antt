@@ -6,10 +6,10 @@ use Rattle.allotment.specs.declared.pay.BuyerRow.{BuyerRow}
 use Rattle.allotment.proofs.Buyers.{step, done, below_kept}
 use Rattle.allotment.proofs.pay.write_rows.Goals as goal
 
-pub loop-i-init : goal.loop_i_init
+pub loop-i-init : goal.loop-i-init
 loop-i-init c = (refl, λ h. (refl, sym (part_none c.args.receipts c.args.due), refl))
 
-pub loop-i-preserved : goal.loop_i_preserved
+pub loop-i-preserved : goal.loop-i-preserved
 loop-i-preserved c =
     let ls = c.args.lots.now in
     let i = c.loop-i.i in

@@ -3,7 +3,7 @@ use Rattle.allotment_theory.specs.Receipts.{part}
 use Rattle.allotment.specs.Rows.{rows_from, rows_of}
 use Rattle.allotment.proofs.pay.write_rows.Given as goal
 
-abbrev pub invariant-loop-i : goal.invariant_loop_i
+abbrev pub invariant-loop-i : goal.invariant-loop-i
 invariant-loop-i l =
     (drop l.i l.rows ≡ drop l.i l.initial.rows)
     × (

@@ -9,7 +9,7 @@ use Rattle.allotment_theory.specs.Offered.{nothing, below}
 use Rattle.allotment.proofs.price.lots_below.Goals as goal
 use Rattle.allotment.proofs.price.lots_below.Goals.{then-offer-price, else-offer-price}
 
-pub loop-i-preserved : goal.loop_i_preserved
+pub loop-i-preserved : goal.loop-i-preserved
 loop-i-preserved c =
     let os = (model_of c.args.book.now).list in
     let p = c.args.price in

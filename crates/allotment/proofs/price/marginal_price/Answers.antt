@@ -5,7 +5,7 @@ use Rattle.allotment_theory.specs.Offered.{reaching}
 use Rattle.allotment_theory.proofs.Steps.{reach_here, reach_more, reach_end, some_due}
 use Rattle.allotment.proofs.price.marginal_price.Goals as goal
 
-pub returns-then-left-offer : goal.returns_then_left_offer
+pub returns-then-left-offer : goal.returns-then-left-offer
 returns-then-left-offer c =
     let os = (model_of c.args.book.now).list in
     let lots = ap (λ (o : Offer). o.lots) c.offer_at-offer.ensures in
@@ -15,7 +15,7 @@ returns-then-left-offer c =
     ∙ c.loop-i.invariant
     ∙ sym (some_due os c.args.due (λ e. omega arith))
 
-pub loop-i-preserved : goal.loop_i_preserved
+pub loop-i-preserved : goal.loop-i-preserved
 loop-i-preserved c =
     let os = (model_of c.args.book.now).list in
     let lots = ap (λ (o : Offer). o.lots) c.offer_at-offer.ensures in

@@ -5,7 +5,7 @@ use Rattle.encode.specs.Codes.{all_graphic}
 use Rattle.encode.proofs.code.all_graphic.Goals as goal
 use Rattle.encode.proofs.code.all_graphic.Goals.{then-byte-lt33-via-then-byte-lt33, then-byte-lt33-via-else-byte-lt33+then-byte-gt126}
 
-pub returns-then-byte-lt33 : goal.returns_then_byte_lt33
+pub returns-then-byte-lt33 : goal.returns-then-byte-lt33
 returns-then-byte-lt33 c =
     let bs = c.args.word.now in
     let i = c.loop-byte.byte-index in
@@ -16,7 +16,7 @@ returns-then-byte-lt33 c =
     ] in
     sym (c.loop-byte.invariant ∙ ap all_graphic (drop_more bs i 0 c.loop-byte-test.true) ∙ ap (λ (b : Bool). b && all_graphic (drop (i + 1) bs)) here)
 
-pub loop-byte-preserved : goal.loop_byte_preserved
+pub loop-byte-preserved : goal.loop-byte-preserved
 loop-byte-preserved c =
     let bs = c.args.word.now in
     let i = c.loop-byte.byte-index in

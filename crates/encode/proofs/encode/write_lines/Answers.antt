@@ -6,14 +6,14 @@ use Rattle.encode.specs.Pieces.{told}
 use Rattle.encode.proofs.Filing.{file_more, file_broken}
 use Rattle.encode.proofs.encode.write_lines.Goals as goal
 
-pub returns-in-err-write-line : goal.returns_in_err_write_line
+pub returns-in-err-write-line : goal.returns-in-err-write-line
 returns-in-err-write-line c =
     let p = err_from_is_err_and c.from-residual.result c.from-residual.ensures.1 in
     let lines = told c.args.lines.now in
     rw (p.1, p.2)
     (file_broken lines c.loop-i.i _ (vec_items c.args.out.now) (vec_items c.write-line.new.out) c.loop-i.invariant.0 (vec_items c.loop-i.out) _ (omega arith) c.text-at.ensures c.loop-i.invariant.1 c.in-err-write-line.ensures)
 
-pub loop-i-preserved : goal.loop_i_preserved
+pub loop-i-preserved : goal.loop-i-preserved
 loop-i-preserved c =
     let lines = told c.args.lines.now in
     let i = c.loop-i.i in

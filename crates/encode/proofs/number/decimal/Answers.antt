@@ -6,7 +6,7 @@ use Rattle.encode.specs.Numbers.{onward, digits, number_in}
 use Rattle.encode.proofs.Reading.{digits_more, number_some}
 use Rattle.encode.proofs.number.decimal.Goals as goal
 
-pub returns-in-err-number : goal.returns_in_err_number
+pub returns-in-err-number : goal.returns-in-err-number
 returns-in-err-number c =
     let w = c.args.word.now in
     let i = c.loop-digit.digit-index in
@@ -18,7 +18,7 @@ returns-in-err-number c =
     ∙ ap (λ (o : Option ℕ). onward o (λ m. digits most m (drop (i + 1) w))) (sym c.in-err-number.ensures.more) in
     record { number = c.from-residual.ensures ∙ sym all; bound = rw c.from-residual.ensures tt }
 
-pub loop-digit-preserved : goal.loop_digit_preserved
+pub loop-digit-preserved : goal.loop-digit-preserved
 loop-digit-preserved c =
     let w = c.args.word.now in
     let i = c.loop-digit.digit-index in

@@ -6,7 +6,7 @@ use Rattle.encode.proofs.Reading.{piece_ends, piece_goes_on}
 use Rattle.encode.proofs.pieces.pieces.Goals as goal
 use Rattle.encode.proofs.pieces.pieces.Goals.{then-bytes-i+in-ok-push, else-bytes-i}
 
-pub loop-i-preserved : goal.loop_i_preserved
+pub loop-i-preserved : goal.loop-i-preserved
 loop-i-preserved c =
     let bytes = c.args.bytes.now in
     let separator = c.args.separator in

@@ -7,7 +7,7 @@ use Rattle.encode.proofs.Reading.{word_more, word_none}
 use Rattle.encode.proofs.pieces.words.Goals as goal
 use Rattle.encode.proofs.pieces.words.Goals.{then-not-is-empty+in-ok-push, else-not-is-empty}
 
-pub loop-i-preserved : goal.loop_i_preserved
+pub loop-i-preserved : goal.loop-i-preserved
 loop-i-preserved c =
     let i = c.loop-i.i in
     let ts = texts c.in-ok-pieces.pieces in

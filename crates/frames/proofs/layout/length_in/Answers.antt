@@ -6,14 +6,14 @@ use Rattle.frames.specs.Layouts.{length_in}
 use Rattle.frames.proofs.Known.{no_layout, known_more}
 use Rattle.frames.proofs.layout.length_in.Goals as goal
 
-pub returns-then-layout-tag : goal.returns_then_layout_tag
+pub returns-then-layout-tag : goal.returns-then-layout-tag
 returns-then-layout-tag c =
     let ls = c.args.layouts.now in
     let i = c.loop-layout.layout-index in
     let here : eqb (get_or ls i no_layout).tag c.args.tag ≡ true = grind (arith, nat_tests) in
     sym (c.loop-layout.invariant ∙ known_more ls i c.args.tag c.loop-layout-test.true ∙ cond-true _ _ _ here)
 
-pub loop-layout-preserved : goal.loop_layout_preserved
+pub loop-layout-preserved : goal.loop-layout-preserved
 loop-layout-preserved c =
     let ls = c.args.layouts.now in
     let i = c.loop-layout.layout-index in

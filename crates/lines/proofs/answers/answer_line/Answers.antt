@@ -10,7 +10,7 @@ worked : BookALine
 unfolding digits
 worked standing = refl
 
-pub returns-in-ok-line : goal.returns_in_ok_line
+pub returns-in-ok-line : goal.returns-in-ok-line
 returns-in-ok-line c = record {
   answered =
       subst (λ (t : List ℕ). Answered line_of c.args.file.now t false) (sym c.in-ok-line.ensures)
@@ -18,7 +18,7 @@ returns-in-ok-line c = record {
   worked = worked;
 }
 
-pub returns-in-ok-fault-line : goal.returns_in_ok_fault_line
+pub returns-in-ok-fault-line : goal.returns-in-ok-fault-line
 returns-in-ok-fault-line c = record {
   answered =
       subst (λ (t : List ℕ). Answered line_of c.args.file.now t true) (sym c.in-ok-fault-line.ensures)
@@ -26,8 +26,8 @@ returns-in-ok-fault-line c = record {
   worked = worked;
 }
 
-pub returns-in-err-line : goal.returns_in_err_line
+pub returns-in-err-line : goal.returns-in-err-line
 returns-in-err-line c = record { answered = search rules; worked = worked }
 
-pub returns-in-err-fault-line : goal.returns_in_err_fault_line
+pub returns-in-err-fault-line : goal.returns-in-err-fault-line
 returns-in-err-fault-line c = record { answered = search rules; worked = worked }

@@ -3,7 +3,7 @@ use Rattle.std.proofs.lemmas.List.{at_drop_more, drop_all}
 use Rattle.lines.specs.Parts.{all_printable}
 use Rattle.lines.proofs.member.is_text.Goals as goal
 
-pub loop-byte-preserved : goal.loop_byte_preserved
+pub loop-byte-preserved : goal.loop-byte-preserved
 loop-byte-preserved c =
     let code = c.args.code.now in
     let i = c.loop-byte.byte-index in
@@ -11,7 +11,7 @@ loop-byte-preserved c =
     ∙ at_drop_more all_printable code i 0 c.loop-byte-test.true
     ∙ ap (λ t. t && all_printable (drop (i + 1) code)) (sym c.if-not-is-printable.ensures)
 
-pub returns-then-not-is-printable : goal.returns_then_not_is_printable
+pub returns-then-not-is-printable : goal.returns-then-not-is-printable
 returns-then-not-is-printable c =
     let code = c.args.code.now in
     let i = c.loop-byte.byte-index in

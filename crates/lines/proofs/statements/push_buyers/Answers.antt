@@ -6,7 +6,7 @@ use Rattle.lines.specs.Statement.{buyer_line, buyer_lines}
 use Rattle.lines.proofs.Lines.{buyers_more}
 use Rattle.lines.proofs.statements.push_buyers.Goals as goal
 
-pub loop-i-preserved : goal.loop_i_preserved
+pub loop-i-preserved : goal.loop-i-preserved
 loop-i-preserved c =
     let buyers = c.args.buyers.now in
     let rows = c.args.rows.now in

@@ -8,7 +8,7 @@ use Rattle.lines.proofs.statements.push_offers.Goals as goal
 abbrev none : Offer
 none = record { number = 0; member = []; account = 0; price = 0; lots = 0 }
 
-pub loop-offer-preserved : goal.loop_offer_preserved
+pub loop-offer-preserved : goal.loop-offer-preserved
 loop-offer-preserved c =
     let offers = c.args.offers.now in
     let fills = c.args.fills.now in

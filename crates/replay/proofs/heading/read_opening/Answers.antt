@@ -5,8 +5,8 @@ use Rattle.replay.proofs.heading.read_opening.Goals as goal
 
 pub returns : goal.returns
 returns c =
-    let base = c.in-ok-opening.ensures.read in
+    let base = c.in_ok-opening.ensures.read in
     record {
-      opened = opened _ _ _ _ _ c.open-at.result base.1 (subst (λ place. StepOpened c.args.filed.particulars c.in-ok-opening.opening.0 place c.open-at.result) base.0 c.open-at.ensures);
-      file = c.read-base.ensures.file;
+      opened = opened _ _ _ _ _ c.open_at.result base.1 (subst (λ place. StepOpened c.args.filed.particulars c.in_ok-opening.opening.0 place c.open_at.result) base.0 c.open_at.ensures);
+      file = c.read_base.ensures.file;
     }

@@ -3,9 +3,9 @@ use Rattle.replay.proofs.Loops.{far, one_call, stopped}
 use Rattle.replay.proofs.Tags.{not_running}
 use Rattle.replay.proofs.reading.read_calls.Goals as goal
 
-pub loop-placed-preserved : goal.loop_placed_preserved
+pub loop-placed-preserved : goal.loop-placed-preserved
 loop-placed-preserved c =
-    let found = c.in-ok-placed.ensures.read in
+    let found = c.in_ok-placed.ensures.read in
     let on = far _ _ _ _ _ _ found c.in-Call.is c.loop-placed.invariant.2 in
     let room : c.loop-placed.count < length c.loop-placed.calls =
     omega (arith, on, found.whole, ap length c.loop-placed.invariant.0, c.requires.short, c.loop-placed.invariant.1) in (
@@ -17,11 +17,11 @@ loop-placed-preserved c =
           (c.loop-placed.invariant.3 t bs d base),
     )
 
-pub returns-in-default : goal.returns_in_default
-returns-in-default c = record {
+pub returns-in_default : goal.returns-in_default
+returns-in_default c = record {
   read = λ t bs d base.
-      stopped _ _ _ _ _ _ _ _ c.loop-placed.invariant.0 c.in-ok-placed.ensures.read
-      (not_running t bs d base (take c.loop-placed.count c.loop-placed.calls) _ c.in-default.not-Call c.in-default.not-Close) (c.loop-placed.invariant.3 t bs d base);
+      stopped _ _ _ _ _ _ _ _ c.loop-placed.invariant.0 c.in_ok-placed.ensures.read
+      (not_running t bs d base (take c.loop-placed.count c.loop-placed.calls) _ c.in_default.not-Call c.in_default.not-Close) (c.loop-placed.invariant.3 t bs d base);
   file = search rules;
   room = search rules;
 }

@@ -7,7 +7,7 @@ use Rattle.replay.specs.Files.{Leads}
 use Rattle.replay.specs.Stages.Stage.{Running}
 use Rattle.replay.proofs.reading.read_calls.Given as goal
 
-abbrev pub invariant-loop-placed : goal.invariant_loop_placed
+abbrev pub invariant-loop-placed : goal.invariant-loop-placed
 invariant-loop-placed l =
     (file_of l.reader ≡ file_of l.initial.reader) ×
     (length l.calls ≡ 5041) ×
@@ -15,5 +15,5 @@ invariant-loop-placed l =
     ((t : Terms) (bs : List Buyer) (d : DrawNumbers) (base : ℕ) →
     Leads (file_of l.initial.reader) (next_place l.initial.reader) (Running t bs d base []) (next_place l.reader) (Running t bs d base (take l.count l.calls)))
 
-abbrev pub decreases-loop-placed : goal.decreases_loop_placed
+abbrev pub decreases-loop-placed : goal.decreases-loop-placed
 decreases-loop-placed l = length (file_of l.reader) - next_place l.reader

@@ -2,8 +2,8 @@ use Rattle.std.proofs.lemmas.Result.{err_from_is_err_and}
 use Rattle.replay.proofs.Joined.{over_long}
 use Rattle.replay.proofs.whole.open.Goals as goal
 
-pub returns-in-err-reader : goal.returns_in_err_reader
-returns-in-err-reader c =
-    let p = err_from_is_err_and c.from-residual.result c.from-residual.ensures.1 in
-    let h = c.in-err-reader.ensures in
+pub returns-in_err-reader : goal.returns-in_err-reader
+returns-in_err-reader c =
+    let p = err_from_is_err_and c.from_residual.result c.from_residual.ensures.1 in
+    let h = c.in_err-reader.ensures in
     rw (p.1, p.2) (over_long _ _ h.0 h.1)

@@ -5,7 +5,7 @@ use Rattle.settlement.specs.Bills.{billable, row_at}
 use Rattle.settlement.proofs.Marks.{owes_nothing, did_not}
 use Rattle.settlement.proofs.billing.mark.Goals as goal
 
-pub returns-then-index-rows : goal.returns_then_index_rows
+pub returns-then-index-rows : goal.returns-then-index-rows
 returns-then-index-rows c =
     let rows = c.args.rows.now in
     let i = c.args.index in

@@ -8,7 +8,7 @@ use Rattle.settlement.proofs.Tenders.{financing_total, general_none}
 use Rattle.settlement.proofs.Totals.{all_billed}
 use Rattle.settlement.proofs.billing.unbilled_total.Goals as goal
 
-pub loop-row-preserved : goal.loop_row_preserved
+pub loop-row-preserved : goal.loop-row-preserved
 loop-row-preserved c =
     let more = sum_by_more owed c.args.rows.now c.loop-row.row-index no_row c.loop-row-test.true in
     omega (arith, more, c.loop-row.invariant, c.still_owed.ensures, c.saturating_add-all.ensures)

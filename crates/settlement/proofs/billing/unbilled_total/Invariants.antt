@@ -4,5 +4,5 @@ use Rattle.settlement.specs.Bills.{unbilled}
 use Rattle.settlement.proofs.billing.unbilled_total.Given as goal
 
 -- what is still to be billed of the rows so far
-abbrev pub invariant-loop-row : goal.invariant_loop_row
+abbrev pub invariant-loop-row : goal.invariant-loop-row
 invariant-loop-row l = l.all ≡ capped (unbilled (take l.row-index l.rows))

@@ -5,7 +5,7 @@ use Rattle.share.specs.Report.{claim_line, claim_lines}
 use Rattle.share.proofs.Lines.{lines_more}
 use Rattle.share.proofs.report.push_claims.Goals as goal
 
-pub loop-i-preserved : goal.loop_i_preserved
+pub loop-i-preserved : goal.loop-i-preserved
 loop-i-preserved c =
     let cs = c.args.claims.now in
     let shares = c.args.shares.now in

@@ -4,7 +4,7 @@ use Rattle.std.proofs.lemmas.List.Sums.{sum_by_more}
 use Rattle.sharing.specs.Totals.{capped}
 use Rattle.share.proofs.report.total.Goals as goal
 
-pub loop-share-preserved : goal.loop_share_preserved
+pub loop-share-preserved : goal.loop-share-preserved
 loop-share-preserved c =
     let more = sum_by_more (λ x. x) c.args.shares.now c.loop-share.share-index 0 c.loop-share-test.true in
     omega arith

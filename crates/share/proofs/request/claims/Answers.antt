@@ -9,7 +9,7 @@ use Rattle.share.proofs.request.claims.Goals as goal
 abbrev make : ℕ → ℕ → Claim
 make number lots = record { number = number; lots = lots }
 
-pub loop-i-preserved : goal.loop_i_preserved
+pub loop-i-preserved : goal.loop-i-preserved
 loop-i-preserved c =
     let words = map string_bytes c.args.lots.now in
     let i = c.loop-i.i in

@@ -16,7 +16,7 @@ ranks : (d e : StrideDraw) (stride shift : ℕ) → d ≡ e → (e.stride ≡ st
 ranks d e stride shift same made =
     ap (λ (x : StrideDraw). stridden x.stride x.shift) same ∙ ap (λ (n : ℕ). stridden n e.shift) made.0 ∙ ap (stridden stride) made.1
 
-pub returns-in-Proportional : goal.returns_in-Proportional
+pub returns-in-Proportional : goal.returns-in-Proportional
 returns-in-Proportional c =
     let cs = c.args.claims.now in
     let drawn = c.in_ok-draw.ensures in
@@ -27,7 +27,7 @@ returns-in-Proportional c =
       shared = MatchResult-weaker c.share.result c.share.ensures.shared (λ _ p. p tt ∙ ap (λ rank. proportional rank cs c.args.amount) rank_is ∙ rule_is) (λ _ q. q);
     }
 
-pub returns-in-Remainder : goal.returns_in-Remainder
+pub returns-in-Remainder : goal.returns-in-Remainder
 returns-in-Remainder c =
     let cs = c.args.claims.now in
     let drawn = c.in_ok-draw.ensures in

@@ -6,7 +6,7 @@ use Rattle.sharing.specs.Claims.{nobody, claimed}
 use Rattle.sharing.specs.Totals.{capped}
 use Rattle.sharing.proofs.total.claimed_lots.Goals as goal
 
-pub loop-i-preserved : goal.loop_i_preserved
+pub loop-i-preserved : goal.loop-i-preserved
 loop-i-preserved c =
     let more = sum_by_more (λ (x : Claim). x.lots) c.args.claims.now c.loop-i.i nobody c.loop-i-test.true in
     omega arith

@@ -4,7 +4,7 @@ use Rattle.std.proofs.lemmas.Bool.{le-leb, lt-leb}
 use Rattle.stages.specs.Buyers.{all_have_lots, nobody}
 use Rattle.stages.proofs.buyers.all_have_lots.Goals as goal
 
-pub returns-then-buyer-eq0 : goal.returns_then_buyer_eq0
+pub returns-then-buyer-eq0 : goal.returns-then-buyer-eq0
 returns-then-buyer-eq0 c =
     let bs = c.args.buyers.now in
     let i = c.loop-buyer.buyer-index in
@@ -12,7 +12,7 @@ returns-then-buyer-eq0 c =
     let none = lt-leb 1 (get_or bs i nobody).lots (omega arith) in
     sym (c.loop-buyer.invariant ∙ here ∙ ap (λ (b : Bool). b && all_have_lots (drop (i + 1) bs)) none)
 
-pub loop-buyer-preserved : goal.loop_buyer_preserved
+pub loop-buyer-preserved : goal.loop-buyer-preserved
 loop-buyer-preserved c =
     let bs = c.args.buyers.now in
     let i = c.loop-buyer.buyer-index in

@@ -4,12 +4,12 @@ use Rattle.stages.specs.Buyers.{account_twice}
 use Rattle.stages.proofs.Accounts.{twice_more}
 use Rattle.stages.proofs.buyers.has_account_twice.Goals as goal
 
-pub returns-then-has_account : goal.returns_then_has_account
+pub returns-then-has_account : goal.returns-then-has_account
 returns-then-has_account c =
     let bs = c.args.buyers.now in
     sym (c.loop-i.invariant ∙ twice_more bs c.loop-i.i c.has_account.result c.loop-i-test.true c.has_account.ensures ∙ ap (λ (b : Bool). b || account_twice (drop (c.loop-i.i + 1) bs)) c.if-has_account.true)
 
-pub loop-i-preserved : goal.loop_i_preserved
+pub loop-i-preserved : goal.loop-i-preserved
 loop-i-preserved c =
     let bs = c.args.buyers.now in
     c.loop-i.invariant ∙ twice_more bs c.loop-i.i c.has_account.result c.loop-i-test.true c.has_account.ensures ∙ ap (λ (b : Bool). b || account_twice (drop (c.loop-i.i + 1) bs)) c.if-has_account.false

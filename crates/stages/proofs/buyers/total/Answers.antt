@@ -5,7 +5,7 @@ use Rattle.stages.specs.declared.terms.Buyer.{Buyer}
 use Rattle.stages.specs.Buyers.{demanded, nobody}
 use Rattle.stages.proofs.buyers.total.Goals as goal
 
-pub loop-buyer-preserved : goal.loop_buyer_preserved
+pub loop-buyer-preserved : goal.loop-buyer-preserved
 loop-buyer-preserved c =
     let more = sum_by_more (λ (x : Buyer). x.lots) c.args.buyers.now c.loop-buyer.buyer-index nobody c.loop-buyer-test.true in
     (omega arith, omega arith)

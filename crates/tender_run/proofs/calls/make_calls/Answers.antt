@@ -14,7 +14,7 @@ some_call = Enter (record { time = 0; member = []; account = 0; price = 0; lots 
 abbrev one_if : Bool → ℕ
 one_if b = cond b 1 0
 
-pub loop-i-preserved : goal.loop_i_preserved
+pub loop-i-preserved : goal.loop-i-preserved
 loop-i-preserved c =
     let t = c.args.tender.now in
     let bs = c.args.buyers.now in

@@ -5,7 +5,7 @@ use Rattle.book.specs.Told.{tally}
 use Rattle.tender_run.specs.Runs.{with_buyers, taken_of}
 use Rattle.tender_run.proofs.calls.make_calls.Given as goal
 
-abbrev pub invariant-loop-i : goal.invariant_loop_i
+abbrev pub invariant-loop-i : goal.invariant-loop-i
 invariant-loop-i l =
     (space l.book ≡ space l.initial.book)
     × (l.book.list.items.ghost_name ≡ l.initial.book.list.items.ghost_name)

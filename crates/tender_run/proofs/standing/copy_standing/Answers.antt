@@ -6,7 +6,7 @@ use Rattle.book.proofs.Listing.{nth_within, read_at}
 use Rattle.tender_run.proofs.standing.copy_standing.Goals as goal
 use Rattle.tender_run.proofs.standing.copy_standing.Goals.{in-Some, in_default}
 
-pub loop-i-preserved : goal.loop_i_preserved
+pub loop-i-preserved : goal.loop-i-preserved
 loop-i-preserved c =
     let os = (model_of c.args.book.now).list in
     let i = c.loop-i.i in

@@ -6,7 +6,7 @@ use Rattle.tender_run.proofs.standing.write_back.Goals as goal
 abbrev blank : Offer
 blank = record { number = 0; member = []; account = 0; price = 0; lots = 0 }
 
-pub loop-i-preserved : goal.loop_i_preserved
+pub loop-i-preserved : goal.loop-i-preserved
 loop-i-preserved c =
     let ks = c.args.offers.now in
     let i = c.loop-i.i in

@@ -8,17 +8,17 @@ use Rattle.book.proofs.Searching.{ahead_none, found_here, ahead_more, ahead_all}
 use Rattle.book.proofs.book.Book.of_member.Goals as goal
 use Rattle.book.proofs.book.Book.of_member.Goals.{in-Some+else-is_of, in_default}
 
-pub loop-i-init : goal.loop_i_init
+pub loop-i-init : goal.loop-i-init
 loop-i-init c = ahead_none (λ (o : Offer). of_member o c.args.member) (model_of c.args.self.now).list
 
-pub returns-then-is_of : goal.returns_then_is_of
+pub returns-then-is_of : goal.returns-then-is_of
 returns-then-is_of c =
     let xs = (model_of c.args.self.now).list in
     let lt : c.loop-i.i < length xs = omega arith in
     one_passes (λ (o : Offer). of_member o c.args.member) xs c.in-Some.offer
     (found_here (λ (o : Offer). of_member o c.args.member) xs c.loop-i.i c.in-Some.offer lt c.in-Some.ensures (sym c.if-is_of.ensures) c.loop-i.invariant).0
 
-pub loop-i-preserved : goal.loop_i_preserved
+pub loop-i-preserved : goal.loop-i-preserved
 loop-i-preserved c =
     let xs = (model_of c.args.self.now).list in
     let lt : c.loop-i.i < length xs = omega arith in

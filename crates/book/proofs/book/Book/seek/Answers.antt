@@ -6,17 +6,17 @@ use Rattle.book.proofs.Searching.{ahead_none, found_here, ahead_more, ahead_all,
 use Rattle.book.proofs.book.Book.seek.Goals as goal
 use Rattle.book.proofs.book.Book.seek.Goals.{in-Some+else-offer-number, in_default}
 
-pub loop-i-init : goal.loop_i_init
+pub loop-i-init : goal.loop-i-init
 loop-i-init c = ahead_none (has_number c.args.number) (model_of c.args.self.now).list
 
-pub returns-then-offer-number : goal.returns_then_offer_number
+pub returns-then-offer-number : goal.returns-then-offer-number
 returns-then-offer-number c =
     let xs = (model_of c.args.self.now).list in
     let lt : c.loop-i.i < length xs = omega arith in
     let here = found_here (has_number c.args.number) xs c.loop-i.i c.in-Some.offer lt c.in-Some.ensures (eq-eqb c.in-Some.offer.number c.args.number c.if-offer-number.true) c.loop-i.invariant in
     (stands_on_512 (space c.args.self.now) xs c.args.number (omega arith) ∙ here.0, lt, here.1)
 
-pub loop-i-preserved : goal.loop_i_preserved
+pub loop-i-preserved : goal.loop-i-preserved
 loop-i-preserved c =
     let xs = (model_of c.args.self.now).list in
     let lt : c.loop-i.i < length xs = omega arith in

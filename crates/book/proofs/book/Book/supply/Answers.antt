@@ -8,7 +8,7 @@ use Rattle.book.proofs.Listing.{nth_within, read_at}
 use Rattle.book.proofs.book.Book.supply.Goals as goal
 use Rattle.book.proofs.book.Book.supply.Goals.{in-Some, in_default}
 
-pub loop-i-preserved : goal.loop_i_preserved
+pub loop-i-preserved : goal.loop-i-preserved
 loop-i-preserved c =
     let xs = (model_of c.args.self.now).list in
     let lt : c.loop-i.i < length xs = omega arith in

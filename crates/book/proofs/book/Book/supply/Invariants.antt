@@ -4,5 +4,5 @@ use Rattle.book.specs.Offers.{capped, supplied}
 use Rattle.book.proofs.book.Book.supply.Given as goal
 
 -- the lots of the offers so far
-abbrev pub invariant-loop-i : goal.invariant_loop_i
+abbrev pub invariant-loop-i : goal.invariant-loop-i
 invariant-loop-i l = l.all ≡ capped (supplied (take l.i (model_of l.self).list))

@@ -3,7 +3,7 @@ use Rattle.std.proofs.lemmas.Result.{err_from_is_err_and}
 use Rattle.frames.proofs.Standing.{faulty, standing}
 use Rattle.frames.proofs.reader.Reader.next.Goals as goal
 
-pub returns-in_err-length : goal.returns_in_err-length
+pub returns-in_err-length : goal.returns-in_err-length
 returns-in_err-length c =
     let p = err_from_is_err_and c.from_residual.result c.from_residual.ensures.1 in
     record {

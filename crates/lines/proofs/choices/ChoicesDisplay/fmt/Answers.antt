@@ -5,7 +5,7 @@ use Rattle.stages.specs.declared.kind.KindRow.{KindRow}
 use Rattle.lines.proofs.Shown.{kind_letter, shortfall_letter_shown}
 use Rattle.lines.proofs.choices.ChoicesDisplay.fmt.Goals as goal
 
-pub returns-clause-writes : goal.returns_clause_writes
+pub returns-clause-writes : goal.returns-clause-writes
 returns-clause-writes g c plain ok =
     let self = c.args.self.now in
     let kind = ap encode (c.from-kind.ensures ∙ ap (λ (r : KindRow). r.letter) c.row.ensures) ∙ kind_letter self.kind in

@@ -5,7 +5,7 @@ use Rattle.lines.specs.Parts.{digit}
 use Rattle.lines.proofs.Shown.{digit_shown}
 use Rattle.lines.proofs.member.HexDisplay.fmt.Goals as goal
 
-pub returns-clause-writes : goal.returns_clause_writes
+pub returns-clause-writes : goal.returns-clause-writes
 returns-clause-writes g c plain ok =
     let b = c.args.self.now.0 in
     subst (λ (l : List ℕ). HasWritten g.W.Write.write_str_gives c.args.f.now l c.write.new.self)

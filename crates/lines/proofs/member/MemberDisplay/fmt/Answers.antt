@@ -4,7 +4,7 @@ use Rattle.std.specs.Fmt.{HasWritten}
 use Rattle.lines.proofs.Shown.{hex_shown, text_shown}
 use Rattle.lines.proofs.member.MemberDisplay.fmt.Goals as goal
 
-pub returns-then-is-text-clause-writes : goal.returns_then_is_text_clause_writes
+pub returns-then-is-text-clause-writes : goal.returns-then-is-text-clause-writes
 returns-then-is-text-clause-writes g c plain ok =
     let m = c.args.self.now.0 in
     let four : length m ≡ 4 = omega arith in
@@ -12,7 +12,7 @@ returns-then-is-text-clause-writes g c plain ok =
     ((λ k. encode (c.from-a.ensures k) ++ (encode (c.from-b.ensures k) ++ (encode (c.from-c.ensures k) ++ encode (c.from-d.ensures k)))) ∙ text_shown m four (sym c.if-is-text.ensures))
     (c.write.ensures.writes plain ok)
 
-pub returns-else-is-text-clause-writes : goal.returns_else_is_text_clause_writes
+pub returns-else-is-text-clause-writes : goal.returns-else-is-text-clause-writes
 returns-else-is-text-clause-writes g c plain ok =
     let m = c.args.self.now.0 in
     let four : length m ≡ 4 = omega arith in

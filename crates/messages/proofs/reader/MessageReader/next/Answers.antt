@@ -3,7 +3,7 @@ use Rattle.std.proofs.lemmas.Result.{err_from_is_err_and}
 use Rattle.messages.proofs.Placing.{placed_fault, placed_next}
 use Rattle.messages.proofs.reader.MessageReader.next.Goals as goal
 
-pub returns-in_err-frame : goal.returns_in_err-frame
+pub returns-in_err-frame : goal.returns-in_err-frame
 returns-in_err-frame c =
     let p = err_from_is_err_and c.from_residual.result c.from_residual.ensures.1 in
     record {

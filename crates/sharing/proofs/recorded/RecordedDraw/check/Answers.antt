@@ -4,7 +4,7 @@ use Rattle.sharing.specs.Distinct.{distinct}
 use Rattle.sharing.proofs.Codes.{full_code}
 use Rattle.sharing.proofs.recorded.RecordedDraw.check.Goals as goal
 
-pub returns-then-not-all_distinct : goal.returns_then_not_all_distinct
+pub returns-then-not-all_distinct : goal.returns-then-not-all_distinct
 returns-then-not-all_distinct c =
     let ranks = c.args.ranks.now in
     let found = c.if-not-all_distinct.ensures ∙ ap distinct (map-id ranks) in
