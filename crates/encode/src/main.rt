@@ -13,6 +13,7 @@ use encode::encode;
 use failure::Failure;
 use std::alloc::Global;
 use std::io::{Read, Write};
+use std::process::ExitCode;
 use std::{env, fs, io};
 
 // How many bytes of text are read. The text of the longest file is far shorter.
@@ -47,9 +48,12 @@ fn run(rt: &HostRuntime) -> Result<(), Failure> {
     Ok(())
 }
 
-fn main(rt: HostRuntime) -> Result<(), Failure> {
+fn main(rt: HostRuntime) -> ExitCode {
     match run(&rt) {
-        Ok(()) => Ok(()),
-        Err(failure) => Err(failure.told(&rt)),
+        Ok(()) => ExitCode::SUCCESS,
+        Err(failure) => {
+            let _told = failure.told(&rt);
+            ExitCode::FAILURE
+        }
     }
 }

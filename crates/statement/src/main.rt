@@ -6,6 +6,7 @@ ghost use Rattle.lines.specs.Statement.{statement_of};
 
 use command::{Failure, print_answer, read_input, told};
 use lines::answer_statement;
+use std::process::ExitCode;
 
 // Answers the file.
 fn conclude(rt: &HostRuntime, file: &[u8]) -> Result<(), Failure>
@@ -21,6 +22,9 @@ fn run(rt: &HostRuntime) -> Result<(), Failure> {
     conclude(rt, file.as_slice())
 }
 
-fn main(rt: HostRuntime) -> Result<(), Failure> {
-    told(&rt, "statement", run(&rt))
+fn main(rt: HostRuntime) -> ExitCode {
+    match told(&rt, "statement", run(&rt)) {
+        Ok(()) => ExitCode::SUCCESS,
+        Err(_) => ExitCode::FAILURE,
+    }
 }

@@ -6,22 +6,22 @@ use Rattle.encode.specs.Pieces.{told}
 use Rattle.encode.proofs.Filing.{file_more, file_broken}
 use Rattle.encode.proofs.encode.write_lines.Goals as goal
 
-pub returns-in-err-write-line : goal.returns-in-err-write-line
-returns-in-err-write-line c =
-    let p = err_from_is_err_and c.from-residual.result c.from-residual.ensures.1 in
+pub returns-in_err-write_line : goal.returns-in_err-write_line
+returns-in_err-write_line c =
+    let p = err_from_is_err_and c.from_residual.result c.from_residual.ensures.1 in
     let lines = told c.args.lines.now in
     rw (p.1, p.2)
-    (file_broken lines c.loop-i.i _ (vec_items c.args.out.now) (vec_items c.write-line.new.out) c.loop-i.invariant.0 (vec_items c.loop-i.out) _ (omega arith) c.text-at.ensures c.loop-i.invariant.1 c.in-err-write-line.ensures)
+    (file_broken lines c.loop-i.i _ (vec_items c.args.out.now) (vec_items c.write_line.new.out) c.loop-i.invariant.0 (vec_items c.loop-i.out) _ (omega arith) c.text_at.ensures c.loop-i.invariant.1 c.in_err-write_line.ensures)
 
 pub loop-i-preserved : goal.loop-i-preserved
 loop-i-preserved c =
     let lines = told c.args.lines.now in
     let i = c.loop-i.i in
-    let wrote = c.in-ok-write-line.ensures in
+    let wrote = c.in_ok-write_line.ensures in
     let bs = c.loop-i.invariant.0 in
     let more = wrote.0 in (
       bs ++ more,
-      file_more lines i bs more (omega arith) c.loop-i.invariant.1 (ap line_bytes (sym c.text-at.ensures) ∙ wrote.1),
+      file_more lines i bs more (omega arith) c.loop-i.invariant.1 (ap line_bytes (sym c.text_at.ensures) ∙ wrote.1),
       wrote.2 ∙ ap (λ (l : List ℕ). l ++ more) c.loop-i.invariant.2 ∙ append_assoc (vec_items c.args.out.now) bs more,
     )
 

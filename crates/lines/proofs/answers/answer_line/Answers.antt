@@ -10,24 +10,24 @@ worked : BookALine
 unfolding digits
 worked standing = refl
 
-pub returns-in-ok-line : goal.returns-in-ok-line
-returns-in-ok-line c = record {
+pub returns-in_ok-line-in-Ok : goal.returns-in_ok-line-in-Ok
+returns-in_ok-line-in-Ok c = record {
   answered =
-      subst (λ (t : List ℕ). Answered line_of c.args.file.now t false) (sym c.in-ok-line.ensures)
+      subst (λ (t : List ℕ). Answered line_of c.args.file.now t false) (sym c.in_ok-line-in-Ok.ensures)
       (reported c.in-Ok.report c.in-Ok.ensures.answer);
   worked = worked;
 }
 
-pub returns-in-ok-fault-line : goal.returns-in-ok-fault-line
-returns-in-ok-fault-line c = record {
+pub returns-in_ok-fault_line-in-Err : goal.returns-in_ok-fault_line-in-Err
+returns-in_ok-fault_line-in-Err c = record {
   answered =
-      subst (λ (t : List ℕ). Answered line_of c.args.file.now t true) (sym c.in-ok-fault-line.ensures)
+      subst (λ (t : List ℕ). Answered line_of c.args.file.now t true) (sym c.in_ok-fault_line-in-Err.ensures)
       (faulty c.in-Err.fault c.in-Err.ensures.answer);
   worked = worked;
 }
 
-pub returns-in-err-line : goal.returns-in-err-line
-returns-in-err-line c = record { answered = search rules; worked = worked }
+pub returns-in_err-line-in-Ok : goal.returns-in_err-line-in-Ok
+returns-in_err-line-in-Ok c = record { answered = search rules; worked = worked }
 
-pub returns-in-err-fault-line : goal.returns-in-err-fault-line
-returns-in-err-fault-line c = record { answered = search rules; worked = worked }
+pub returns-in_err-fault_line-in-Err : goal.returns-in_err-fault_line-in-Err
+returns-in_err-fault_line-in-Err c = record { answered = search rules; worked = worked }

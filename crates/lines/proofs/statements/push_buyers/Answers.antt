@@ -11,8 +11,8 @@ loop-i-preserved c =
     let buyers = c.args.buyers.now in
     let rows = c.args.rows.now in
     let i = c.loop-i.i in
-    c.in-ok-push-str.ensures.bytes
-    ∙ ap (λ (l : List ℕ). string_bytes c.loop-i.text ++ l) (c.as-str.ensures.value ∙ c.in-ok-line.ensures)
+    c.in_ok-push_str.ensures.bytes
+    ∙ ap (λ (l : List ℕ). string_bytes c.loop-i.text ++ l) (c.as_str.ensures.value ∙ c.in_ok-line.ensures)
     ∙ ap (λ (l : List ℕ). l ++ buyer_line (get_or buyers i nobody) (get_or rows i no_row)) c.loop-i.invariant
     ∙ buyers_more (string_bytes c.args.text.now) buyers rows i nobody no_row c.requires c.loop-i-test.true
 

@@ -14,9 +14,9 @@ loop-offer-preserved c =
     let fills = c.args.fills.now in
     let i = c.loop-offer.offer-index in
     let o = get_or offers i none in
-    c.in-ok-push-str.ensures.bytes
+    c.in_ok-push_str.ensures.bytes
     ∙ ap (λ (l : List ℕ). string_bytes c.loop-offer.text ++ l)
-    (c.as-str.ensures.value ∙ c.in-ok-line.ensures ∙ ap (λ (n : ℕ). offer_line o n) c.fill-of.ensures)
+    (c.as_str.ensures.value ∙ c.in_ok-line.ensures ∙ ap (λ (n : ℕ). offer_line o n) c.fill_of.ensures)
     ∙ ap (λ (l : List ℕ). l ++ offer_line o (get_or fills o.number 0)) c.loop-offer.invariant
     ∙ offers_more (string_bytes c.args.text.now) fills offers i none c.loop-offer-test.true
 

@@ -10,7 +10,7 @@ returns c =
     let n = r.particulars.buyers in
     let buyers = buyer_lines (take n r.buyers) (take n r.rows) in
     let offers = offer_lines r.fills (take r.outcome.standing r.offers) in
-    let standing = c.in-ok-push-offers.ensures ∙ ap (λ l. string_bytes c.in-ok-text.text ++ offer_lines r.fills l) c.first-standing.ensures in
-    c.in-ok-push-buyers.ensures
-    ∙ ap (λ (l : List ℕ). l ++ buyers) (standing ∙ ap (λ (l : List ℕ). l ++ offers) c.in-ok-text.ensures)
+    let standing = c.in_ok-push_offers.ensures ∙ ap (λ l. string_bytes c.in_ok-text.text ++ offer_lines r.fills l) c.first-standing.ensures in
+    c.in_ok-push_buyers.ensures
+    ∙ ap (λ (l : List ℕ). l ++ buyers) (standing ∙ ap (λ (l : List ℕ). l ++ offers) c.in_ok-text.ensures)
     ∙ append_assoc (line_of r) offers buyers

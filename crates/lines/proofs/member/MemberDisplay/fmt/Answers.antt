@@ -4,18 +4,18 @@ use Rattle.std.specs.Fmt.{HasWritten}
 use Rattle.lines.proofs.Shown.{hex_shown, text_shown}
 use Rattle.lines.proofs.member.MemberDisplay.fmt.Goals as goal
 
-pub returns-then-is-text-clause-writes : goal.returns-then-is-text-clause-writes
-returns-then-is-text-clause-writes g c plain ok =
+pub returns-then-is_text-clause-writes : goal.returns-then-is_text-clause-writes
+returns-then-is_text-clause-writes g c plain ok =
     let m = c.args.self.now.0 in
     let four : length m ≡ 4 = omega arith in
     subst (λ (l : List ℕ). HasWritten g.W.Write.write_str_gives c.args.f.now l c.write.new.self)
-    ((λ k. encode (c.from-a.ensures k) ++ (encode (c.from-b.ensures k) ++ (encode (c.from-c.ensures k) ++ encode (c.from-d.ensures k)))) ∙ text_shown m four (sym c.if-is-text.ensures))
+    ((λ k. encode (c.from-a.ensures k) ++ (encode (c.from-b.ensures k) ++ (encode (c.from-c.ensures k) ++ encode (c.from-d.ensures k)))) ∙ text_shown m four (sym c.if-is_text.ensures))
     (c.write.ensures.writes plain ok)
 
-pub returns-else-is-text-clause-writes : goal.returns-else-is-text-clause-writes
-returns-else-is-text-clause-writes g c plain ok =
+pub returns-else-is_text-clause-writes : goal.returns-else-is_text-clause-writes
+returns-else-is_text-clause-writes g c plain ok =
     let m = c.args.self.now.0 in
     let four : length m ≡ 4 = omega arith in
-    subst (λ (l : List ℕ). HasWritten g.W.Write.write_str_gives c.args.f.now l c.write-else-is-text.new.self)
-    (hex_shown m four (sym c.if-is-text.ensures))
-    (c.write-else-is-text.ensures.writes plain ok)
+    subst (λ (l : List ℕ). HasWritten g.W.Write.write_str_gives c.args.f.now l c.write-else-is_text.new.self)
+    (hex_shown m four (sym c.if-is_text.ensures))
+    (c.write-else-is_text.ensures.writes plain ok)
