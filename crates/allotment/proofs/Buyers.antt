@@ -1,10 +1,10 @@
 -- The buyers as claims, and one turn of the loop that writes their rows.
-use Rattle.std.proofs.Common.{◌≡◌, ℕ, zero, suc, ◌+◌, ◌-◌, ◌<◌, ◌≤◌, Bool, true, false, cond, not, ◌&&◌, ◌||◌, List, [], ◌∷◌, ◌++◌, length, get_or, take, drop, set, sym, refl, ap, ◌∙◌, add-suc, suc-add, zero-add, add-one, arith}
+use Rattle.std.proofs.Common.{◌≡◌, ℕ, zero, suc, ◌+◌, ◌-◌, ◌<◌, ◌≤◌, Bool, List, [], ◌∷◌, ◌++◌, length, get_or, take, drop, set, sym, refl, ap, ◌∙◌, zero-add, add-one, arith}
 use Rattle.std.proofs.lemmas.List.{take_more_set, drop_more, append_assoc, append-nil, drop_all}
 use Rattle.stages.specs.declared.terms.Buyer.{Buyer}
 use Rattle.stages.specs.Buyers.{nobody}
 use Rattle.sharing.specs.declared.claim.Claim.{Claim}
-use Rattle.allotment_theory.specs.Receipts.{part, payments}
+use Rattle.allotment_theory.specs.Receipts.{part}
 use Rattle.allotment.specs.declared.pay.BuyerRow.{BuyerRow}
 use Rattle.allotment.specs.Rows.{rows_from, claims_from, claims_of}
 

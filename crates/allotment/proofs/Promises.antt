@@ -1,19 +1,17 @@
 -- What is computed keeps the promise.
-use Rattle.std.proofs.Common.{◌≡◌, ℕ, ◌+◌, ◌-◌, ◌*◌, ◌<◌, ◌≤◌, min, List, [], ◌∷◌, ◌++◌, map, length, get_or, take, drop, replicate, Some, None, sum, Option, sym, refl, ap, ◌∙◌, subst, ⊎_elim, arith, MatchOption}
+use Rattle.std.proofs.Common.{◌≡◌, ℕ, ◌+◌, ◌-◌, ◌*◌, ◌<◌, ◌≤◌, List, ◌++◌, map, length, get_or, take, drop, replicate, Some, None, sum, Option, sym, refl, ap, ◌∙◌, subst, ⊎_elim, arith, MatchOption}
 use Rattle.std.proofs.lemmas.Bool.{cases_lt}
-use Rattle.std.proofs.lemmas.List.{length-map}
 use Rattle.stages.specs.declared.particulars.Particulars.{Particulars}
 use Rattle.stages.specs.declared.terms.Buyer.{Buyer}
 use Rattle.stages.specs.Buyers as filed
 use Rattle.sharing.specs.declared.claim.Claim.{Claim}
-use Rattle.sharing.specs.Bounds as bounds
 use Rattle.sharing.specs.Claims.{Fair, claimed, nobody}
 use Rattle.sharing.specs.Shares.{proportional, largest_remainder, shareable}
 use Rattle.sharing.proofs.Near.{proportional_near, remainder_near}
 use Rattle.book.specs.declared.offer.Offer.{Offer}
 use Rattle.book.specs.Offers.{supplied}
-use Rattle.allotment_theory.specs.Offered.{Standing, below, due_of, marginal_of}
-use Rattle.allotment_theory.specs.Fills.{Paired, Within, Priced, Unpriced, Filled, FilledRow, fills_of, row_of, gathered, tied, worth}
+use Rattle.allotment_theory.specs.Offered.{Standing, below, marginal_of}
+use Rattle.allotment_theory.specs.Fills.{Paired, Priced, Unpriced, FilledRow, fills_of, row_of, gathered, tied, worth}
 use Rattle.allotment_theory.specs.Receipts.{paid_at, receipts_of, price_or_0, payments_of, Nearby}
 use Rattle.allotment_theory.specs.Theorems.{Lawful}
 use Rattle.allotment_theory.proofs.Near.{carries, remains}

@@ -1,10 +1,10 @@
 -- What rows hold.
-use Rattle.std.proofs.Common.{◌≡◌, ℕ, zero, suc, ◌+◌, ◌-◌, ◌<◌, ◌≤◌, Bool, true, false, List, [], ◌∷◌, ◌++◌, map, length, get_or, take, drop, replicate, sum, sym, refl, ap, ◌∙◌, arith}
-use Rattle.std.proofs.lemmas.List.{map-append, length-map}
+use Rattle.std.proofs.Common.{◌≡◌, ℕ, zero, suc, ◌+◌, ◌-◌, ◌<◌, Bool, List, [], ◌∷◌, ◌++◌, map, length, get_or, take, drop, replicate, sum, sym, refl, ap, ◌∙◌, arith}
+use Rattle.std.proofs.lemmas.List.{map-append}
 use Rattle.std.proofs.lemmas.List.Sums.{sum_by-append, sum_by-cons}
-use Rattle.allotment_theory.specs.Receipts.{part, payments, Near, Nearby}
+use Rattle.allotment_theory.specs.Receipts.{part, payments, Nearby}
 use Rattle.allotment.specs.declared.pay.BuyerRow.{BuyerRow}
-use Rattle.allotment.specs.Rows.{no_row, rows_from, rows_of, lots_in, payments_in}
+use Rattle.allotment.specs.Rows.{no_row, rows_from, lots_in, payments_in}
 
 pub lots_held : (r due : ℕ) (billed : Bool) (before : ℕ) (ls : List ℕ) → lots_in (rows_from r due billed before ls) ≡ ls
 lots_held r due billed before [] = refl

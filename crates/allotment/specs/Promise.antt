@@ -8,7 +8,7 @@ use Rattle.sharing.specs.Claims.{admissible, claimed}
 use Rattle.sharing.specs.Shares.{proportional, largest_remainder}
 use Rattle.book.specs.declared.offer.Offer.{Offer}
 use Rattle.book.specs.Offers.{capped, supplied}
-use Rattle.allotment_theory.specs.Offered.{Standing, Marginal, below, due_of, marginal_of, up_to}
+use Rattle.allotment_theory.specs.Offered.{Standing, Marginal, below, due_of, marginal_of}
 use Rattle.allotment_theory.specs.Fills.{Paired, Within, Cut, worth, tied, fills_at, fills_of, row_of, gathered}
 use Rattle.allotment_theory.specs.Receipts.{paid_at, receipts_of, price_or_0, payments_of, Nearby}
 use Rattle.allotment.specs.declared.pay.BuyerRow.{BuyerRow}

@@ -6,7 +6,6 @@ use Rattle.stages.specs.declared.kind.Kind.TheVariants.{General}
 use Rattle.stages.specs.declared.method.Method.{Method}
 use Rattle.stages.specs.declared.method.Method.TheVariants.{OnePrice, AsOffered}
 use Rattle.stages.specs.declared.opened.Open.{Open}
-use Rattle.stages.specs.declared.particulars.Particulars.{Particulars}
 use Rattle.stages.specs.declared.shortfall.Shortfall.{Shortfall}
 use Rattle.stages.specs.declared.shortfall.Shortfall.TheVariants.{Take, Void}
 use Rattle.stages.specs.declared.terms.Buyer.{Buyer}

@@ -1,5 +1,5 @@
 -- Standing offers stand in order of price, and at one price in order of arrival.
-use Rattle.std.proofs.Common.{◌≡◌, ℕ, zero, suc, ◌+◌, ◌<◌, ◌≤◌, Bool, true, false, cond, not, ◌&&◌, ◌||◌, eqb, ltb, leb, ◌⊎◌, List, [], ◌∷◌, map, is_some, Some, None, Option, sym, refl, ap, ◌∙◌, subst, inl, inr, ⊎_elim, arith}
+use Rattle.std.proofs.Common.{◌≡◌, ℕ, zero, suc, ◌+◌, ◌<◌, ◌≤◌, Bool, true, false, cond, not, eqb, ◌⊎◌, List, [], ◌∷◌, map, is_some, Some, None, Option, sym, refl, ap, ◌∙◌, subst, inl, inr, ⊎_elim, arith}
 use Rattle.std.specs.List.{AllByRecursion as All}
 use Rattle.std.proofs.ByRecursion.{All-weaker}
 use Rattle.std.proofs.lemmas.Bool.{and_from, and_left, and_right, cases_Bool, cond_both, cond-true, cond-false, eq-eqb, ne_eqb, eqb-true, false≢true, leb-true, leb-false}
@@ -13,13 +13,13 @@ use Rattle.book.specs.declared.cancel.Cancellation.{Cancellation}
 use Rattle.book.specs.declared.change.Change.{Change}
 use Rattle.book.specs.declared.entry.Entry.{Entry}
 use Rattle.book.specs.declared.offer.Offer.{Offer}
-use Rattle.book.specs.Judgement.{entry_code, change_code, cancel_code, outside_window, before_latest, bad_price, bad_lots, owned}
+use Rattle.book.specs.Judgement.{entry_code, change_code, cancel_code, outside_window, before_latest, bad_price, bad_lots}
 use Rattle.book.specs.Model.{Model, fresh, has_number, standing, without}
 use Rattle.book.specs.Offers.{cheaper, first_that, without_first}
 use Rattle.book.specs.Soundness.{Sound, Apart}
-use Rattle.book.specs.Told.{call_code, told, tally, entered, changed, cancelled, offered, repriced, changed_list}
+use Rattle.book.specs.Told.{told, tally, entered, changed, cancelled, offered, repriced, changed_list}
 use Rattle.book.proofs.Keeping.{sound_entered, sound_changed, sound_cancelled}
-use Rattle.allotment_theory.specs.Arrivals.{puts, comes, ComesAt, LastAt, Before, ByPriority, InPriority}
+use Rattle.allotment_theory.specs.Arrivals.{comes, ComesAt, LastAt, Before, ByPriority, InPriority}
 
 -- x stands before y, where each number has a time of arrival
 pub record Ahead (at : ℕ → ℕ) (x y : Offer) : Type 0 where

@@ -1,7 +1,7 @@
 -- Whole below a price and nothing above it is the cheapest choice.
-use Rattle.std.proofs.Common.{◌≡◌, ℕ, zero, suc, ◌+◌, ◌-◌, ◌*◌, ◌<◌, ◌≤◌, ◌⊎◌, List, [], ◌∷◌, sum, sym, refl, ap, ◌∙◌, inl, inr, ⊎_elim, mul_assoc, mul_comm, add-mul, mul-add, arith}
+use Rattle.std.proofs.Common.{◌≡◌, ℕ, ◌+◌, ◌-◌, ◌*◌, ◌<◌, ◌≤◌, List, [], ◌∷◌, sum, ap, ◌∙◌, ⊎_elim, mul_assoc, add-mul, mul-add, arith}
 use Rattle.std.proofs.lemmas.List.Sums.{sum_by-cons}
-use Rattle.std.proofs.lemmas.Bool.{cases_lt, cases_order}
+use Rattle.std.proofs.lemmas.Bool.{cases_order}
 use Rattle.book.specs.declared.offer.Offer.{Offer}
 use Rattle.allotment_theory.specs.Fills.{Paired, Within, Cut, worth}
 use Rattle.allotment_theory.specs.Theorems.{Cheapest}

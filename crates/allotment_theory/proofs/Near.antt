@@ -1,12 +1,12 @@
 -- What holds of each tied claim and its share holds of each offer at the price and its fill.
-use Rattle.std.proofs.Common.{◌≡◌, ℕ, zero, suc, ◌-◌, ◌<◌, ◌≤◌, min, cond, eqb, List, [], ◌∷◌, length, get_or, sym, ap, ◌∙◌, ⊎_elim, arith}
+use Rattle.std.proofs.Common.{◌≡◌, ℕ, suc, ◌-◌, ◌<◌, eqb, List, [], ◌∷◌, length, get_or, ⊎_elim, arith}
 use Rattle.std.proofs.lemmas.Bool.{cases_eq, cond-true, cond-false, eq-eqb, ne_eqb}
 use Rattle.sharing.specs.declared.claim.Claim.{Claim}
-use Rattle.sharing.specs.Claims.{claimed, nobody}
+use Rattle.sharing.specs.Claims.{nobody}
 use Rattle.sharing.specs.Shares.{shareable}
 use Rattle.book.specs.declared.offer.Offer.{Offer}
 use Rattle.allotment_theory.specs.Offered.{below, Marginal}
-use Rattle.allotment_theory.specs.Fills.{Paired, tied, fills_at, claim_of}
+use Rattle.allotment_theory.specs.Fills.{Paired, tied, fills_at}
 use Rattle.allotment_theory.proofs.Total.{tied_at, tied_off, splits, below_le}
 
 -- a share for each claim, and what holds of each pair

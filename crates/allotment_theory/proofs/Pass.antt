@@ -1,14 +1,13 @@
 -- A pass through an ordered list finds the marginal price.
-use Rattle.std.proofs.Common.{◌≡◌, ℕ, zero, suc, ◌+◌, ◌-◌, ◌<◌, ◌≤◌, Bool, true, false, cond, eqb, leb, ◌⊎◌, List, [], ◌∷◌, Some, None, sum_by, sym, refl, ap, ◌∙◌, inl, inr, ⊎_elim, arith}
+use Rattle.std.proofs.Common.{◌≡◌, ℕ, ◌+◌, ◌-◌, ◌<◌, ◌≤◌, Bool, true, false, cond, eqb, leb, ◌⊎◌, List, [], ◌∷◌, Some, None, refl, ap, ◌∙◌, ⊎_elim, arith}
 use Rattle.std.specs.List.{AllByRecursion as All}
 use Rattle.std.proofs.lemmas.List.Sums.{sum_by-cons}
-use Rattle.std.proofs.ByRecursion.{All-weaker}
-use Rattle.std.proofs.lemmas.Bool.{cases_lt, cases_Bool, leb-true, leb-false, lt-leb, le-leb, eqb-true, ne_eqb}
+use Rattle.std.proofs.lemmas.Bool.{cases_lt, cases_Bool, leb-true, leb-false, ne_eqb}
 use Rattle.std.proofs.lemmas.Bool.Decides.{nat_tests}
 use Rattle.ordered.specs.Behind.{InOrder}
 use Rattle.book.specs.declared.offer.Offer.{Offer}
 use Rattle.book.specs.Offers.{cheaper, supplied}
-use Rattle.allotment_theory.specs.Offered.{up_to, Marginal, reaching, marginal_of}
+use Rattle.allotment_theory.specs.Offered.{up_to, Marginal, reaching}
 use Rattle.allotment_theory.specs.Theorems.{PassFinds, PassEnds}
 
 abbrev at_most : ℕ → Offer → ℕ

@@ -1,9 +1,8 @@
 -- The laws leave no choice.
-use Rattle.std.proofs.Common.{◌≡◌, ℕ, ◌<◌, ◌≤◌, eqb, ◌⊎◌, List, [], ◌∷◌, sym, refl, ◌∙◌, ⊎_elim, arith}
+use Rattle.std.proofs.Common.{◌≡◌, ℕ, ◌<◌, eqb, List, [], ◌∷◌, sym, refl, ◌∙◌, ⊎_elim, arith}
 use Rattle.std.proofs.lemmas.Bool.{cases_order, cond-true, cond-false, eq-eqb, ne_eqb}
 use Rattle.book.specs.declared.offer.Offer.{Offer}
-use Rattle.allotment_theory.specs.Offered.{Marginal}
-use Rattle.allotment_theory.specs.Fills.{Paired, Cut, fills_at}
+use Rattle.allotment_theory.specs.Fills.{fills_at}
 use Rattle.allotment_theory.specs.Theorems.{OnePrice, OneFill}
 
 pub one_price : OnePrice

@@ -1,10 +1,10 @@
 -- Payments total the receipts, and each is near its part.
-use Rattle.std.proofs.Common.{◌≡◌, ℕ, zero, suc, ◌+◌, ◌-◌, ◌*◌, ◌/◌, ◌%◌, ◌<◌, ◌≤◌, Bool, true, false, cond, eqb, List, [], ◌∷◌, map, length, get_or, sum, sym, refl, ap, ◌∙◌, mul_assoc, mul_comm, add-mul, mul-le-mul_left, mul-add, mul_right_comm, mul_left_comm, arith}
+use Rattle.std.proofs.Common.{◌≡◌, ℕ, zero, suc, ◌+◌, ◌-◌, ◌*◌, ◌/◌, ◌%◌, ◌<◌, ◌≤◌, eqb, List, [], ◌∷◌, map, sum, sym, refl, ap, ◌∙◌, mul_comm, add-mul, mul-le-mul_left, mul-add, mul_right_comm, arith}
 use native.Mathlib.Nat.{mul-div-le, lt-mul-div-succ, mul-add-div_right, div-zero, div-le_of_le-mul, mul-div_cancel_left}
 use Rattle.std.proofs.lemmas.Nat.{le-div, div-add-mod'}
 use Rattle.std.proofs.lemmas.List.Sums.{sum_by-cons}
 use Rattle.std.proofs.lemmas.Bool.{ne_eqb, cond-false}
-use Rattle.allotment_theory.specs.Receipts.{part, payments, payments_of, Near, Nearby}
+use Rattle.allotment_theory.specs.Receipts.{part, payments, payments_of, Nearby}
 use Rattle.allotment_theory.specs.Theorems.{PaymentsTotal, PaymentsNear}
 
 -- a part times what is due

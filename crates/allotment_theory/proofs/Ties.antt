@@ -1,12 +1,12 @@
 -- The offers at a price are claims that a rule can share among.
-use Rattle.std.proofs.Common.{◌≡◌, ℕ, ◌<◌, ◌≤◌, Bool, true, false, cond, not, ◌&&◌, ◌||◌, eqb, leb, List, [], ◌∷◌, map, length, filter, sym, refl, ap, ◌∙◌, arith}
+use Rattle.std.proofs.Common.{◌≡◌, ℕ, ◌<◌, ◌≤◌, Bool, true, false, not, ◌&&◌, ◌||◌, eqb, leb, List, [], ◌∷◌, map, length, filter, sym, refl, ap, ◌∙◌, arith}
 use Rattle.std.specs.List.{AllByRecursion as All}
 use Rattle.std.proofs.ByRecursion.{all_kept_by}
 use Rattle.std.proofs.lemmas.List.{length-map}
 use Rattle.std.proofs.lemmas.List.Sums.{length-filter, count_by-le-length}
 use Rattle.std.proofs.lemmas.Bool.{and_from, cond_both, le-leb, ne_eqb}
 use Rattle.sharing.specs.declared.claim.Claim.{Claim}
-use Rattle.sharing.specs.Claims.{admissible, within_limits, all_within_limits}
+use Rattle.sharing.specs.Claims.{within_limits, all_within_limits}
 use Rattle.sharing.specs.Distinct.{among, distinct}
 use Rattle.book.specs.declared.offer.Offer.{Offer}
 use Rattle.book.specs.Model.{Model}

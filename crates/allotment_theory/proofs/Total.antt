@@ -1,11 +1,10 @@
 -- Fills total what is due, and are cut at the marginal price.
-use Rattle.std.proofs.Common.{◌≡◌, ℕ, zero, suc, ◌+◌, ◌-◌, ◌<◌, ◌≤◌, min, Bool, true, false, cond, eqb, ltb, leb, ◌⊎◌, List, [], ◌∷◌, map, length, get_or, sum_by, sum, filter, sym, refl, ap, ◌∙◌, inl, inr, ⊎_elim, arith}
-use Rattle.std.specs.List.{AllByRecursion as All}
+use Rattle.std.proofs.Common.{◌≡◌, ℕ, zero, suc, ◌+◌, ◌<◌, ◌≤◌, cond, eqb, ltb, leb, List, [], ◌∷◌, map, length, get_or, sum, filter, refl, ap, ◌∙◌, ⊎_elim, arith}
 use Rattle.std.proofs.lemmas.List.Sums.{sum_by-cons}
 use Rattle.std.proofs.lemmas.Bool.{cases_eq, ne_eqb, eq-eqb, cond-true, cond-false}
 use Rattle.std.proofs.lemmas.Bool.Decides.{nat_tests}
 use Rattle.sharing.specs.declared.claim.Claim.{Claim}
-use Rattle.sharing.specs.Claims.{Fair, claimed, nobody}
+use Rattle.sharing.specs.Claims.{claimed, nobody}
 use Rattle.book.specs.declared.offer.Offer.{Offer}
 use Rattle.allotment_theory.specs.Offered.{up_to, below, Marginal}
 use Rattle.allotment_theory.specs.Fills.{Paired, Cut, tied, fill_one, filled, fills_at, first, rest, claim_of}

@@ -1,18 +1,16 @@
 -- The whole promise of the fills.
-use Rattle.std.proofs.Common.{◌≡◌, ℕ, zero, suc, ◌+◌, ◌-◌, ◌*◌, ◌<◌, ◌≤◌, Bool, true, false, cond, eqb, ◌⊎◌, List, [], ◌∷◌, map, length, Some, None, sum, sym, refl, ap, ◌∙◌, inl, inr, ⊎_elim, mul_assoc, add-mul, mul-le-mul_left, arith}
-use Rattle.std.specs.List.{AllByRecursion as All}
+use Rattle.std.proofs.Common.{◌≡◌, ℕ, suc, ◌-◌, ◌*◌, ◌<◌, ◌≤◌, eqb, List, [], ◌∷◌, map, length, Some, None, sum, sym, refl, ap, ◌∙◌, ⊎_elim, mul_assoc, add-mul, mul-le-mul_left, arith}
 use Rattle.std.proofs.ByRecursion.{All-weaker}
 use Rattle.std.proofs.lemmas.Bool.Decides.{nat_tests}
 use Rattle.std.proofs.lemmas.List.Sums.{sum_by-cons}
 use Rattle.std.proofs.lemmas.Bool.{cases_lt, cond-true, eq-eqb}
 use Rattle.sharing.specs.declared.claim.Claim.{Claim}
-use Rattle.sharing.specs.Claims.{Fair}
 use Rattle.stages.specs.declared.shortfall.Shortfall.{Shortfall}
 use Rattle.stages.specs.declared.shortfall.Shortfall.TheVariants.{Take, Void}
 use Rattle.book.specs.declared.offer.Offer.{Offer}
 use Rattle.book.specs.Offers.{supplied}
-use Rattle.allotment_theory.specs.Offered.{below, Marginal, due_of, marginal_of, reaching, Standing, Single}
-use Rattle.allotment_theory.specs.Fills.{Paired, Within, Cut, worth, tied, filled, fills_at, fills_by, fills_of, Priced, Unpriced, Filled, FilledRow, gathered, row_of}
+use Rattle.allotment_theory.specs.Offered.{below, due_of, marginal_of, reaching, Standing, Single}
+use Rattle.allotment_theory.specs.Fills.{Paired, Within, Cut, worth, tied, filled, fills_by, fills_of, Filled}
 use Rattle.allotment_theory.specs.Theorems.{WorthBounded, Lawful, Allots, FillsRow}
 use Rattle.allotment_theory.proofs.Pass.{pass_finds, pass_ends}
 use Rattle.allotment_theory.proofs.Total.{ties, fills_total, fills_cut}

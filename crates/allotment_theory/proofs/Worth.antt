@@ -1,16 +1,16 @@
 -- The receipts of a row are the worth of its fills, and 64 bits hold them.
-use Rattle.std.proofs.Common.{◌≡◌, ℕ, zero, suc, ◌+◌, ◌-◌, ◌*◌, ◌^◌, ◌<◌, ◌≤◌, Bool, true, false, cond, eqb, leb, ◌⊎◌, List, [], ◌∷◌, get_or, Some, None, sum, Option, sym, refl, ap, ◌∙◌, ⊎_elim, mul_assoc, arith}
+use Rattle.std.proofs.Common.{◌≡◌, ℕ, ◌+◌, ◌-◌, ◌*◌, ◌≤◌, eqb, leb, List, [], ◌∷◌, get_or, Some, None, sum, Option, refl, ap, ◌∙◌, mul_assoc, arith}
 use Rattle.std.specs.List.{AllByRecursion as All}
 use Rattle.std.proofs.lemmas.Nat.{mul-le}
 use Rattle.std.proofs.ByRecursion.{All-weaker}
 use Rattle.std.proofs.lemmas.List.Sums.{sum_by-cons}
-use Rattle.std.proofs.lemmas.Bool.{cases_Bool, cond_both}
+use Rattle.std.proofs.lemmas.Bool.{cond_both}
 use Rattle.stages.specs.declared.method.Method.{Method}
 use Rattle.stages.specs.declared.method.Method.TheVariants.{OnePrice, AsOffered}
 use Rattle.book.specs.declared.offer.Offer.{Offer}
-use Rattle.allotment_theory.specs.Offered.{reaching, marginal_of, Standing, Single}
+use Rattle.allotment_theory.specs.Offered.{reaching, marginal_of, Single}
 use Rattle.allotment_theory.specs.Fills.{gathered, worth}
-use Rattle.allotment_theory.specs.Receipts.{receipts_of, paid_at, price_or_0}
+use Rattle.allotment_theory.specs.Receipts.{paid_at, price_or_0}
 use Rattle.allotment_theory.specs.Theorems.{ReceiptsWorth, ReceiptsFit}
 use Rattle.allotment_theory.proofs.Whole.{worth_bounded}
 

@@ -1,5 +1,5 @@
 -- What stands in a book, what is due of it, and the marginal price.
-use Rattle.std.specs.Prelude.{◌≡◌, ℕ, ◌-◌, ◌<◌, ◌≤◌, Bool, cond, List, [], ◌∷◌, length, Some, None, sum_by, Option, ◌==◌, nat_le, nat_lt}
+use Rattle.std.specs.Prelude.{ℕ, ◌-◌, ◌<◌, ◌≤◌, cond, List, [], ◌∷◌, length, Some, None, sum_by, Option, ◌==◌, nat_le, nat_lt}
 use Rattle.std.specs.List.{AllByRecursion as All}
 use Rattle.ordered.specs.Behind.{InOrder}
 use Rattle.stages.specs.declared.shortfall.Shortfall.{Shortfall}

@@ -1,5 +1,5 @@
 -- What the sellers receive together, and what each buyer pays of it.
-use Rattle.std.specs.Prelude.{ℕ, ◌+◌, ◌-◌, ◌*◌, ◌/◌, ◌<◌, Bool, cond, List, [], ◌∷◌, map, Some, None, sum_by, Option, ◌==◌, slice_index}
+use Rattle.std.specs.Prelude.{ℕ, ◌+◌, ◌-◌, ◌*◌, ◌/◌, ◌<◌, cond, List, [], ◌∷◌, map, Some, None, sum_by, Option, ◌==◌, slice_index}
 use Rattle.stages.specs.declared.method.Method.{Method}
 use Rattle.stages.specs.declared.method.Method.TheVariants.{OnePrice, AsOffered}
 use Rattle.book.specs.declared.offer.Offer.{Offer}

@@ -1,5 +1,5 @@
 -- What a member's question is answered with.
-use Rattle.std.specs.Prelude.{◌≡◌, ℕ, true, false, List, Some, None, Option, MatchOption}
+use Rattle.std.specs.Prelude.{◌≡◌, ℕ, true, false, List, Option, MatchOption}
 use Rattle.std.specs.List.{ContainsAt as Has, AllByRecursion as All}
 use Rattle.book.specs.declared.finding.Sheet.{Sheet}
 use Rattle.book.specs.declared.offer.Offer.{Offer}

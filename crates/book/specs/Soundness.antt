@@ -1,5 +1,5 @@
 -- The condition that each call keeps.
-use Rattle.std.specs.Prelude.{◌≡◌, ◌<◌, ◌≤◌, List, [], ◌∷◌, length, ◌≢◌}
+use Rattle.std.specs.Prelude.{◌<◌, ◌≤◌, List, [], ◌∷◌, length, ◌≢◌}
 use Rattle.std.specs.List.{AllByRecursion as All}
 use Rattle.ordered.specs.Behind.{InOrder}
 use Rattle.book.specs.declared.offer.Offer.{Offer}

@@ -1,9 +1,9 @@
 -- The bytes of lines, one line at a time.
-use Rattle.std.proofs.Common.{◌≡◌, ℕ, ◌+◌, ◌<◌, List, [], ◌∷◌, ◌++◌, length, take, Some, None, Err, Option, sym, refl, ap, ◌∙◌, subst, arith}
+use Rattle.std.proofs.Common.{◌≡◌, ℕ, ◌+◌, ◌<◌, List, [], ◌∷◌, ◌++◌, length, take, Some, None, Err, Option, sym, refl, ap, ◌∙◌, arith}
 use Rattle.std.proofs.lemmas.List.{append_assoc, append-nil, take_more}
 use Rattle.encode.specs.declared.failure.Failure.{Failure}
 use Rattle.encode.specs.declared.failure.Failure.TheVariants.{Line, TooLong, Memory, Io}
-use Rattle.encode.specs.Files.{line_bytes, file_bytes, Broken, LineWritten, Progress}
+use Rattle.encode.specs.Files.{line_bytes, file_bytes, LineWritten, Progress}
 use Rattle.encode.specs.Numbers.{onward}
 use Rattle.encode.specs.Pieces.{text_at}
 

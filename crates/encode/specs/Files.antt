@@ -1,7 +1,6 @@
 -- A text as a tender file.
 use Rattle.std.specs.Prelude.{◌≡◌, ℕ, ◌+◌, ◌<◌, cond, List, [], ◌∷◌, ◌++◌, length, take, Some, None, Ok, Err, vec_items, Option, Result, Vec}
 use Rattle.std.specs.declared.alloc.Global.{Global}
-use Rattle.messages.specs.declared.message.Message.{Message}
 use Rattle.messages.specs.Messages.{message_bytes}
 use Rattle.encode.specs.declared.failure.Failure.{Failure}
 use Rattle.encode.specs.declared.failure.Failure.TheVariants.{Line, TooLong, Memory, Io}

@@ -1,10 +1,10 @@
 -- Where the judgement of a frame's bytes puts the frame in its file.
-use Rattle.std.proofs.Common.{◌≡◌, ℕ, ◌+◌, ◌-◌, ◌/◌, ◌%◌, ◌<◌, ◌≤◌, List, [], ◌∷◌, ◌++◌, length, get_or, take, drop, Some, Ok, Err, Option, sym, refl, ap, ◌∙◌, subst, arith}
+use Rattle.std.proofs.Common.{◌≡◌, ℕ, ◌+◌, ◌-◌, ◌/◌, ◌%◌, ◌<◌, ◌≤◌, List, [], ◌∷◌, ◌++◌, length, get_or, take, drop, Some, Ok, Err, sym, refl, ap, ◌∙◌, subst, arith}
 use Rattle.std.proofs.lemmas.List.{append_assoc, drop_more, drop-drop, get_or-drop, length-drop, length-take-le, take-append-drop, take_rest}
 use Rattle.frames.specs.declared.fault.FrameFault.{FrameFault}
 use Rattle.frames.specs.declared.layout.Layout.{Layout}
 use Rattle.frames.specs.declared.reader.Frame.{Frame}
-use Rattle.frames.specs.Frames.{frame_bytes, frame_code, Judged, Stands, Faulty}
+use Rattle.frames.specs.Frames.{frame_bytes, Judged, Stands, Faulty}
 use Rattle.frames.specs.Layouts.{length_in}
 
 -- the first three bytes of what is left, and the others

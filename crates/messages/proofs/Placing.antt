@@ -5,9 +5,8 @@ use Rattle.frames.specs.declared.fault.FrameFault.TheVariants.{CutShort, TooLong
 use Rattle.frames.specs.declared.reader.Frame.{Frame}
 use Rattle.frames.specs.Faults.{number_of}
 use Rattle.frames.specs.Frames.{frame_bytes, Next, Stands, Faulty}
-use Rattle.messages.specs.declared.message.Message.{Message}
 use Rattle.messages.specs.declared.reader.Placed.{Placed}
-use Rattle.messages.specs.Messages.{tag_of, value_bytes, message_bytes, message_code, tender_layouts, Fits}
+use Rattle.messages.specs.Messages.{tag_of, message_bytes, message_code, tender_layouts}
 use Rattle.messages.specs.Reading.{Says, MessageStands, MessageFaulty}
 use Rattle.messages.proofs.Unique.{message_whole, message_alone}
 

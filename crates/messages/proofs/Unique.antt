@@ -1,5 +1,5 @@
 -- Bytes begin with at most one message, and those that do are accepted.
-use Rattle.std.proofs.Common.{◌≡◌, ℕ, ◌+◌, List, ◌++◌, length, get_or, take, drop, Some, Option, sym, refl, ap, ◌∙◌, arith}
+use Rattle.std.proofs.Common.{◌≡◌, ℕ, List, ◌++◌, length, get_or, take, drop, Some, sym, refl, ap, ◌∙◌, arith}
 use Rattle.std.proofs.lemmas.List.{length-append, take_at, drop_at}
 use Rattle.book.specs.declared.call.Call.TheVariants as calls
 use Rattle.frames.specs.Layouts.{length_in}

@@ -1,5 +1,5 @@
 -- The frame of a message is written as its tag and value.
-use Rattle.std.proofs.Common.{◌≡◌, ℕ, ◌≤◌, List, ◌++◌, length, Ok, Err, Result, sym, refl, ap, ◌∙◌, arith}
+use Rattle.std.proofs.Common.{◌≡◌, ℕ, ◌≤◌, List, ◌++◌, length, Ok, Err, Result, refl, ap, ◌∙◌, arith}
 use Rattle.frames.specs.declared.writer.WriteFault.{WriteFault}
 use Rattle.frames.specs.declared.writer.WriteFault.TheVariants.{TooLong, Memory}
 use Rattle.frames.specs.Frames.{frame_bytes, Written}

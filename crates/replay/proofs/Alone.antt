@@ -1,26 +1,22 @@
 -- A file comes to one verdict alone.
-use Rattle.std.proofs.Common.{◌≡◌, ℕ, ◌+◌, ◌<◌, ◌≤◌, true, false, List, [], ◌∷◌, ◌++◌, length, Some, None, Option, sym, refl, ap, ◌∙◌, subst, arith}
+use Rattle.std.proofs.Common.{◌≡◌, ℕ, ◌+◌, ◌<◌, true, List, [], length, sym, refl, ap, ◌∙◌, subst, arith}
 use Rattle.std.proofs.lemmas.Bool.{lt-ltb, true≢false}
-use Rattle.stages.specs.declared.kind.Kind.{Kind}
-use Rattle.stages.specs.declared.kind.Kind.TheVariants.{General}
 use Rattle.stages.specs.declared.particulars.Particulars.{Particulars}
 use Rattle.stages.specs.declared.terms.Buyer.{Buyer}
 use Rattle.stages.specs.declared.terms.Terms.{Terms}
 use Rattle.stages.specs.Filing.{AsFiled}
-use Rattle.stages.specs.Kinds.{kind_at, over_at, row_of}
 use Rattle.stages.specs.Steps.{closing_code, opening_code}
 use Rattle.book.specs.declared.call.Call.TheVariants.{Enter, Change, Cancel}
 use Rattle.messages.specs.declared.message.Message.{Message}
 use Rattle.messages.specs.Messages.{message_bytes, message_code, tag_of}
 use Rattle.messages.proofs.Unique.{message_alone, message_whole}
-use Rattle.replay.specs.Files.{ComesTo, OneVerdict, Reads, Stands, Verdict}
+use Rattle.replay.specs.Files.{OneVerdict, Reads, Stands, Verdict}
 use Rattle.replay.specs.Files.ComesTo.{read, too_long}
 use Rattle.replay.specs.Files.Reads.{broken, done, ended, out_of_order, refused, taken}
 use Rattle.faults.specs.declared.layer.Layer.TheVariants.{Rule}
 use Rattle.replay.specs.Files.Verdict.{Faulty}
-use Rattle.replay.specs.Stages.{RefusedBy, Stage, Step, in_order, over}
+use Rattle.replay.specs.Stages.{RefusedBy, Stage, Step, in_order}
 use Rattle.replay.specs.Stages.RefusedBy.{closing, draw, filing, opening}
-use Rattle.replay.specs.Stages.Stage.{Start, Over}
 use Rattle.replay.specs.Stages.Step.{buyer, call, closes, files, opens, terms}
 
 -- two particulars that were filed on one set of terms are of one kind and have one previous close

@@ -13,14 +13,14 @@ use Rattle.messages.specs.declared.message.Message.TheVariants as says
 use Rattle.messages.specs.Reading.{MessageStands}
 use Rattle.faults.specs.declared.fault.ProgramFault.{ProgramFault}
 use Rattle.faults.specs.declared.layer.Layer.TheVariants.{Rule}
-use Rattle.faults.specs.Faults.{layer_of, number_of, place_of}
-use Rattle.replay.specs.Files.{Leads, Reads, Stands}
+use Rattle.faults.specs.Faults.{number_of, place_of}
+use Rattle.replay.specs.Files.{Leads, Reads}
 use Rattle.replay.specs.Files.Reads.{refused}
 use Rattle.replay.specs.Files.Verdict.{Faulty}
 use Rattle.replay.specs.Heading.{Refused, StepOpened}
 use Rattle.replay.specs.Reading.{Buyers}
 use Rattle.replay.specs.Running.{OpenedAt, faulted}
-use Rattle.replay.specs.Stages.{Stage, RefusedBy}
+use Rattle.replay.specs.Stages.{Stage}
 use Rattle.replay.specs.Stages.RefusedBy.{draw, filing, opening}
 use Rattle.replay.specs.Stages.Stage.{Start, Filing, Drawn, Running}
 use Rattle.replay.specs.Stages.Step.{files, opens}

@@ -1,5 +1,5 @@
 -- One turn of the loops over buyers and over calls.
-use Rattle.std.proofs.Common.{◌≡◌, ℕ, ◌+◌, ◌*◌, ◌<◌, ◌≤◌, min, false, ltb, List, [], ◌∷◌, ◌++◌, length, take, drop, set, sym, refl, ap, subst, arith}
+use Rattle.std.proofs.Common.{◌≡◌, ℕ, ◌+◌, ◌*◌, ◌<◌, ◌≤◌, false, List, [], ◌∷◌, ◌++◌, length, take, drop, set, sym, refl, ap, subst, arith}
 use Rattle.std.proofs.lemmas.List.{length-append, length-take-le, take_all, take_more_set}
 use Rattle.std.proofs.lemmas.Bool.{le-ltb}
 use Rattle.stages.specs.declared.terms.Buyer.{Buyer}
@@ -13,7 +13,6 @@ use Rattle.messages.specs.declared.reader.Placed.{Placed}
 use Rattle.messages.specs.Messages.{CallFits, Fits, message_bytes, tag_of}
 use Rattle.values.specs.Fields.{four_bytes, two_bytes}
 use Rattle.messages.specs.Reading.{MessageStands}
-use Rattle.faults.specs.declared.fault.OrderFault.{OrderFault}
 use Rattle.faults.specs.declared.fault.OrderFault.TheVariants.{OutOfOrder}
 use Rattle.replay.specs.Files.{Leads, Reads}
 use Rattle.replay.specs.Reading.{Stops}

@@ -1,5 +1,5 @@
 -- Which messages are out of order in a stage, by what they are not.
-use Rattle.std.proofs.Common.{◌≡◌, ℕ, ◌<◌, true, false, ◌&&◌, ◌||◌, ltb, List, length, refl}
+use Rattle.std.proofs.Common.{◌≡◌, ℕ, false, ltb, List, length, refl}
 use Rattle.stages.specs.declared.terms.Buyer.{Buyer}
 use Rattle.stages.specs.declared.terms.Terms.{Terms}
 use Rattle.book.specs.declared.call.Call.{Call}
@@ -8,8 +8,8 @@ use Rattle.values.specs.declared.draw.DrawNumbers.{DrawNumbers}
 use Rattle.messages.specs.declared.message.Message.{Message}
 use Rattle.messages.specs.declared.message.Message.TheVariants as says
 use Rattle.messages.specs.Messages.{tag_of}
-use Rattle.replay.specs.Stages.{Script, Stage, in_order}
-use Rattle.replay.specs.Stages.Stage.{Start, Filing, Drawn, Running, Over}
+use Rattle.replay.specs.Stages.{in_order}
+use Rattle.replay.specs.Stages.Stage.{Start, Filing, Drawn, Running}
 
 pub not_terms : (m : Message) → ((x : Terms) → m ≡ says.Terms x → ⊥) → in_order Start (tag_of m) ≡ false
 not_terms (says.Terms t) h = absurd (h t refl)

@@ -1,16 +1,15 @@
 -- One message on the way through a file.
-use Rattle.std.proofs.Common.{◌≡◌, ℕ, ◌+◌, ◌-◌, ◌<◌, ◌≤◌, false, List, [], length, drop, Some, None, Ok, Option, sym, ◌∙◌, subst, arith, lit≤}
+use Rattle.std.proofs.Common.{◌≡◌, ℕ, ◌<◌, ◌≤◌, false, List, length, drop, Some, None, Ok, Option, sym, ◌∙◌, subst, arith, lit≤}
 use Rattle.std.proofs.lemmas.List.{drop_all, length-drop}
 use Rattle.frames.specs.declared.fault.FrameFault.{FrameFault}
 use Rattle.frames.specs.declared.fault.FrameFault.TheVariants.{CutShort, TooLong, UnknownTag, WrongLength}
-use Rattle.frames.specs.Faults.{number_of, place_of}
+use Rattle.frames.specs.Faults.{number_of}
 use Rattle.messages.specs.declared.reader.Placed.{Placed}
-use Rattle.messages.specs.Messages.{message_bytes, message_code, tag_of}
+use Rattle.messages.specs.Messages.{tag_of}
 use Rattle.messages.specs.Reading.{MessageFaulty, MessageStands, NextMessage}
-use Rattle.faults.specs.declared.fault.OrderFault.{OrderFault}
 use Rattle.faults.specs.declared.fault.OrderFault.TheVariants.{Frame as Framed, OutOfOrder, Ended}
 use Rattle.faults.specs.declared.layer.Layer.TheVariants.{Frame, Order}
-use Rattle.replay.specs.Files.{Leads, Reads, Stands, Verdict}
+use Rattle.replay.specs.Files.{Leads, Reads, Stands}
 use Rattle.replay.specs.Files.Reads.{broken, ended, out_of_order, taken}
 use Rattle.replay.specs.Files.Verdict.{Faulty}
 use Rattle.replay.specs.Reading.{Stops}

@@ -1,10 +1,9 @@
 -- What each part of the reading promises: where the file is read on, and in which stage; or the fault that the file comes to.
-use Rattle.std.specs.Prelude.{◌≡◌, ℕ, ◌≤◌, true, false, List, [], length, take, drop, Ok, Err, Result}
+use Rattle.std.specs.Prelude.{◌≡◌, ℕ, ◌≤◌, false, List, [], length, take, drop, Ok, Err, Result}
 use Rattle.stages.specs.declared.terms.Buyer.{Buyer}
 use Rattle.stages.specs.declared.terms.Terms.{Terms}
 use Rattle.book.specs.declared.call.Call.{Call}
 use Rattle.values.specs.declared.draw.DrawNumbers.{DrawNumbers}
-use Rattle.messages.specs.declared.message.Message.{Message}
 use Rattle.messages.specs.declared.message.Message.TheVariants as says
 use Rattle.messages.specs.declared.reader.Placed.{Placed}
 use Rattle.messages.specs.Reading.{MessageStands}

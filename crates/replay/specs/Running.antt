@@ -1,6 +1,5 @@
 -- What a whole file is answered by.
-use Rattle.std.specs.Prelude.{◌≡◌, ℕ, ◌≤◌, true, List, [], ◌∷◌, length, take, drop, Ok, Err, Result}
-use Rattle.stages.specs.declared.filed.Filed.{Filed}
+use Rattle.std.specs.Prelude.{◌≡◌, ℕ, ◌≤◌, true, List, [], length, take, drop, Ok, Err, Result}
 use Rattle.stages.specs.declared.opened.Open.{Open}
 use Rattle.stages.specs.declared.particulars.Particulars.{Particulars}
 use Rattle.stages.specs.declared.terms.Buyer.{Buyer}
@@ -8,7 +7,6 @@ use Rattle.stages.specs.declared.terms.Terms.{Terms}
 use Rattle.stages.specs.Buyers.{as_filed}
 use Rattle.stages.specs.Filing.{AsFiled}
 use Rattle.sharing.specs.declared.claim.Claim.{Claim}
-use Rattle.sharing.specs.declared.stride.StrideDraw.{StrideDraw}
 use Rattle.sharing.specs.Draws.{stridden}
 use Rattle.sharing.specs.Shares.{largest_remainder}
 use Rattle.book.specs.declared.call.Call.{Call}
@@ -28,8 +26,8 @@ use Rattle.replay.specs.declared.report.Report.{Report}
 use Rattle.faults.specs.Faults.{layer_of, number_of, order_layer, order_number, order_place, place_of}
 use Rattle.replay.specs.Files.{ComesTo, Leads, Reads, Verdict, bytes_of, script_messages}
 use Rattle.replay.specs.Files.Verdict.{Faulty, Ran}
-use Rattle.replay.specs.Stages.{Script, Stage}
-use Rattle.replay.specs.Stages.Stage.{Start, Filing, Drawn, Running, Over}
+use Rattle.replay.specs.Stages.{Script}
+use Rattle.replay.specs.Stages.Stage.{Start, Drawn, Running}
 
 -- the verdict of a fault
 abbrev pub faulted : ProgramFault → Verdict

@@ -1,5 +1,5 @@
 -- How far a tender file has been read, and which message may come next.
-use Rattle.std.specs.Prelude.{◌≡◌, ℕ, ◌<◌, Bool, true, false, ◌&&◌, ◌||◌, List, [], ◌∷◌, ◌++◌, map, length, ◌==◌, nat_le, nat_lt}
+use Rattle.std.specs.Prelude.{◌≡◌, ℕ, ◌<◌, Bool, true, false, ◌&&◌, ◌||◌, List, [], ◌∷◌, ◌++◌, length, ◌==◌, nat_le, nat_lt}
 use Rattle.stages.specs.declared.particulars.Particulars.{Particulars}
 use Rattle.stages.specs.declared.terms.Buyer.{Buyer}
 use Rattle.stages.specs.declared.terms.Terms.{Terms}

@@ -1,5 +1,5 @@
 -- Lots handed out to the first of a queue, one each.
-use Rattle.std.proofs.Common.{◌≡◌, ℕ, zero, suc, ◌+◌, ◌<◌, ◌≤◌, Bool, true, false, eqb, List, [], ◌∷◌, length, get_or, take, set, Some, None, count_by, sym, ap, ◌∙◌, subst, ⊎_elim, suc-le-suc, arith}
+use Rattle.std.proofs.Common.{◌≡◌, ℕ, zero, suc, ◌+◌, ◌<◌, ◌≤◌, Bool, eqb, List, [], ◌∷◌, length, get_or, take, set, Some, None, count_by, sym, ap, ◌∙◌, subst, ⊎_elim, suc-le-suc, arith}
 use Rattle.std.specs.List.{slice_get, AllByRecursion as All}
 use Rattle.std.proofs.ByRecursion.{All-get_or}
 use Rattle.std.proofs.lemmas.List.{get_or-set_same, get_or-set_other, take_all}

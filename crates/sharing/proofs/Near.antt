@@ -1,5 +1,5 @@
 -- How near shares are to their exact proportions.
-use Rattle.std.proofs.Common.{◌≡◌, ℕ, ◌+◌, ◌*◌, ◌/◌, ◌%◌, ◌<◌, ◌≤◌, Bool, true, false, cond, ◌&&◌, ◌||◌, eqb, ltb, List, [], ◌∷◌, map, length, get_or, count_by, sym, refl, ap, ◌∙◌, ⊎_elim, mod-lt, mul-add, arith}
+use Rattle.std.proofs.Common.{◌≡◌, ℕ, ◌+◌, ◌*◌, ◌/◌, ◌%◌, ◌<◌, ◌≤◌, Bool, true, false, cond, ltb, List, [], ◌∷◌, length, get_or, count_by, refl, ap, ⊎_elim, mod-lt, mul-add, arith}
 use native.Mathlib.Nat.{div-add-mod}
 use Rattle.std.proofs.lemmas.List.{get_or-map}
 use Rattle.std.proofs.lemmas.List.Sums.{sum_by-cons}
@@ -9,7 +9,7 @@ use Rattle.sharing.specs.declared.leftover.Leftover.{Leftover}
 use Rattle.sharing.specs.declared.leftover.Leftover.TheVariants.{ByRank, ByRemainder}
 use Rattle.sharing.specs.Bounds.{AboutProportional, LessThanALotOff, Near}
 use Rattle.sharing.specs.Claims.{admissible, claimed, nobody}
-use Rattle.sharing.specs.Shares.{part, remainder, ahead, ahead_of, left_over, share_of, shareable, divided, proportional, largest_remainder, larger_remainder, smaller_rank}
+use Rattle.sharing.specs.Shares.{remainder, ahead, ahead_of, left_over, share_of, shareable, divided, proportional, largest_remainder, larger_remainder}
 use Rattle.sharing.specs.Admitted.{claimed_pos}
 use Rattle.sharing.specs.Parts.{has_remainder, enough}
 

@@ -1,19 +1,14 @@
 -- What a division by parts and leftover lots gives each claim.
-use Rattle.std.specs.Prelude.{◌≡◌, ℕ, suc, ◌+◌, ◌-◌, ◌*◌, ◌/◌, ◌<◌, ◌≤◌, min, Bool, true, false, cond, ltb, List, [], ◌∷◌, map, length, get_or, sum_by, sum, count_by, nat_lt, slice_index_or, refl}
-use Rattle.std.proofs.Common.{⊎_elim, sym, ap, ◌∙◌, mul-add, arith}
-use Rattle.std.proofs.Math.Nat.{mul-div-le, lt-mul-div-succ, div-add-mod}
-use Rattle.ordered.proofs.Counts.{count_same}
-use Rattle.std.specs.List.{AllByRecursion as All}
+use Rattle.std.specs.Prelude.{◌≡◌, ℕ, ◌+◌, ◌<◌, ◌≤◌, Bool, true, false, cond, ltb, List, [], ◌∷◌, length, get_or, sum_by, nat_lt, slice_index_or, refl}
+use Rattle.std.proofs.Common.{⊎_elim, ap, ◌∙◌, arith}
 use Rattle.std.proofs.lemmas.List.{length-map, get_or-map}
 use Rattle.std.proofs.lemmas.List.Sums.{sum_by-cons, sum-map, count_by-le-length}
-use Rattle.std.proofs.lemmas.Bool.{ltb-true, ltb-false, lt-ltb, le-ltb, cases_lt, cases_Bool, or_left, false≢true}
+use Rattle.std.proofs.lemmas.Bool.{ltb-true, cases_lt, cases_Bool}
 use Rattle.sharing.specs.declared.claim.Claim.{Claim}
 use Rattle.sharing.specs.declared.leftover.Leftover.{Leftover}
-use Rattle.sharing.specs.declared.leftover.Leftover.TheVariants.{ByRank, ByRemainder}
-use Rattle.sharing.specs.Bounds.{AboutProportional, LessThanALotOff}
 use Rattle.sharing.specs.Claims.{admissible, claimed, nobody, Fair}
 use Rattle.sharing.specs.Draws.{Lawful}
-use Rattle.sharing.specs.Shares.{part, remainder, ahead, ahead_of, left_over, share_of, shareable, divided, proportional, largest_remainder, larger_remainder, smaller_rank}
+use Rattle.sharing.specs.Shares.{part, ahead, ahead_of, left_over, share_of, shareable, divided}
 use Rattle.sharing.specs.Admitted.{admitted, limits_at, claimed_pos}
 use Rattle.sharing.specs.Leftovers.{served_total}
 use Rattle.sharing.specs.Parts.{part_le, part_lt, whole_parts, has_remainder, enough}

@@ -1,5 +1,5 @@
 -- Worked examples of the rules.
-use Rattle.std.specs.Prelude.{◌≡◌, ℕ, List, [], ◌∷◌}
+use Rattle.std.specs.Prelude.{◌≡◌, ℕ, [], ◌∷◌}
 use Rattle.sharing.specs.declared.claim.Claim.{Claim}
 use Rattle.sharing.specs.Draws.{stridden}
 use Rattle.sharing.specs.Shares.{proportional, largest_remainder}

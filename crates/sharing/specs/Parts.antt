@@ -1,10 +1,10 @@
 -- Parts with the fraction dropped, and what they leave over.
-use Rattle.std.specs.Prelude.{◌≡◌, ℕ, ◌+◌, ◌-◌, ◌*◌, ◌/◌, ◌%◌, ◌<◌, ◌≤◌, Bool, true, false, cond, List, [], ◌∷◌, sum_by, count_by, nat_lt, refl}
-use Rattle.std.proofs.Common.{sym, ap, ◌∙◌, mul-add, mul_comm, mul-le-mul_right, mul-lt-mul_of_pos_right, mod-lt, arith, ⊎_elim}
+use Rattle.std.specs.Prelude.{◌≡◌, ℕ, ◌+◌, ◌*◌, ◌/◌, ◌<◌, ◌≤◌, Bool, true, false, cond, List, [], ◌∷◌, sum_by, count_by, nat_lt, refl}
+use Rattle.std.proofs.Common.{ap, ◌∙◌, mul-add, mul_comm, mul-le-mul_right, mul-lt-mul_of_pos_right, mod-lt, arith}
 use Rattle.std.proofs.Math.Nat.{le_of_mul-le-mul_left, div-le_of_le-mul, div-add-mod, mul-div_cancel_left}
 use Rattle.std.proofs.lemmas.Nat.{div_below}
 use Rattle.std.proofs.lemmas.List.Sums.{sum_by-cons}
-use Rattle.std.proofs.lemmas.Bool.{lt-ltb, ltb-false, cases_Bool}
+use Rattle.std.proofs.lemmas.Bool.{ltb-false}
 use Rattle.sharing.specs.declared.claim.Claim.{Claim}
 use Rattle.sharing.specs.Claims.{claimed}
 use Rattle.sharing.specs.Shares.{part, remainder, left_over}

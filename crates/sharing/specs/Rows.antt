@@ -1,6 +1,6 @@
 -- A row of 512 ranks, no two equal, is a draw.
-use Rattle.std.specs.Prelude.{◌≡◌, ℕ, zero, suc, ◌<◌, Bool, true, false, not, ◌&&◌, ◌||◌, List, [], ◌∷◌, length, ◌==◌, slice_index, refl}
-use Rattle.std.proofs.Common.{sym, ◌∙◌, ap, ⊎_elim, inl, inr, le_of_suc-le-suc, not-suc-le-zero, arith}
+use Rattle.std.specs.Prelude.{◌≡◌, ℕ, zero, suc, ◌<◌, true, not, List, [], ◌∷◌, length, ◌==◌, slice_index, refl}
+use Rattle.std.proofs.Common.{sym, ap, le_of_suc-le-suc, not-suc-le-zero, arith}
 use Rattle.std.proofs.lemmas.Bool.{and_parts, or_left, or_right, eq-eqb, not-true, both_ways}
 use Rattle.sharing.specs.Distinct.{among, distinct}
 use Rattle.sharing.specs.Draws.{Lawful, Narrow}

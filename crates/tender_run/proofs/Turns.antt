@@ -1,5 +1,5 @@
 -- One turn of the loop that makes the calls, and its end.
-use Rattle.std.proofs.Common.{◌≡◌, ℕ, ◌+◌, ◌<◌, ◌≤◌, Bool, true, false, cond, eqb, List, [], ◌∷◌, map, length, get_or, drop, sym, refl, ap, ◌∙◌}
+use Rattle.std.proofs.Common.{◌≡◌, ℕ, ◌+◌, ◌<◌, ◌≤◌, cond, eqb, List, length, get_or, drop, ap}
 use Rattle.std.proofs.lemmas.List.{drop_more, drop_all}
 use Rattle.stages.specs.declared.opened.Open.{Open}
 use Rattle.stages.specs.declared.terms.Buyer.{Buyer}

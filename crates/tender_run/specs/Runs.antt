@@ -1,5 +1,5 @@
 -- What the calls of a tender come to, and which runs are refused.
-use Rattle.std.specs.Prelude.{ℕ, ◌+◌, Bool, cond, not, List, [], ◌∷◌, map, ◌==◌}
+use Rattle.std.specs.Prelude.{ℕ, ◌+◌, cond, not, List, [], ◌∷◌, map, ◌==◌}
 use Rattle.sharing.specs.declared.claim.Claim.{Claim}
 use Rattle.sharing.specs.Shares.{proportional}
 use Rattle.sharing.specs.TimeOrder.{in_turn}

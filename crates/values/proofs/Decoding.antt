@@ -1,11 +1,5 @@
 -- Bytes of the right width are those of what they say.
-use Rattle.std.proofs.Common.{◌≡◌, ℕ, Bool, true, false, cond, eqb, List, [], length, get_or, Some, None, Option, sym, subst, arith}
-use Rattle.stages.specs.declared.terms.Buyer.{Buyer}
-use Rattle.stages.specs.declared.terms.Terms.{Terms}
-use Rattle.book.specs.declared.cancel.Cancellation.{Cancellation}
-use Rattle.book.specs.declared.change.Change.{Change}
-use Rattle.book.specs.declared.entry.Entry.{Entry}
-use Rattle.values.specs.declared.draw.DrawNumbers.{DrawNumbers}
+use Rattle.std.proofs.Common.{◌≡◌, ℕ, List, [], length, get_or, Some, arith}
 use Rattle.values.specs.Fields.{four_bytes, two_at, four_at, code_at, Word, Bytes, Decoded}
 use Rattle.values.specs.Values.{terms_bytes, buyer_bytes, draw_bytes, entry_bytes, change_bytes, cancellation_bytes, TermsFit, BuyerFits, DrawFits, EntryFits, ChangeFits, CancellationFits}
 use Rattle.values.proofs.Spelling.{one_step, half_step, word_step, code_step, none_left, half_fits, word_fits, code_fits}

@@ -1,9 +1,7 @@
-use Rattle.std.proofs.Common.{◌≡◌, ◌<◌, ◌≤◌, [], ◌∷◌, ◌++◌, length, get_or, take, sym, ap, ◌∙◌, arith}
+use Rattle.std.proofs.Common.{◌<◌, ◌≤◌, length, sym, ap, ◌∙◌, arith}
 use Rattle.std.proofs.lemmas.List.{take_all, take_more_set}
-use Rattle.sharing.specs.declared.claim.Claim.{Claim}
 use Rattle.book.specs.declared.offer.Offer.{Offer}
 use Rattle.book.specs.Model.{model_of}
-use Rattle.allotment_theory.specs.Offered.{nothing}
 use Rattle.allotment_theory.specs.Fills.{tied, claim_of}
 use Rattle.allotment_theory.proofs.Steps.{tied_here, tied_past}
 use Rattle.allotment.proofs.fill.collect_tied.Goals as goal

@@ -1,9 +1,9 @@
-use Rattle.std.proofs.Common.{◌≡◌, ℕ, ◌<◌, ◌≤◌, List, length, get_or, set, sym, ap, ◌∙◌, arith}
+use Rattle.std.proofs.Common.{◌≡◌, ◌<◌, ◌≤◌, length, get_or, set, sym, ap, ◌∙◌, arith}
 use Rattle.book.specs.declared.offer.Offer.{Offer}
 use Rattle.book.specs.Model.{model_of}
 use Rattle.allotment_theory.specs.Offered.{nothing}
 use Rattle.allotment_theory.specs.Fills.{fill_one}
-use Rattle.allotment_theory.proofs.Steps.{Left, write_here, write_past, write_end}
+use Rattle.allotment_theory.proofs.Steps.{write_here, write_past, write_end}
 use Rattle.allotment.proofs.fill.write_fills.Goals as goal
 use Rattle.allotment.proofs.fill.write_fills.Goals.{then-offer-price, else-offer-price}
 

@@ -1,6 +1,6 @@
 use Rattle.std.proofs.Common.{◌≡◌, ℕ, replicate, Some, None, sym, refl, ap, ◌∙◌}
 use Rattle.book.specs.Model.{model_of}
-use Rattle.allotment_theory.specs.Fills.{row_of, fills_by, scattered, filled}
+use Rattle.allotment_theory.specs.Fills.{row_of, fills_by, scattered}
 use Rattle.allotment_theory.specs.Offered.{marginal_of}
 use Rattle.allotment_theory.proofs.Scatter.{zero_row}
 use Rattle.allotment_theory.proofs.Ties.{ties_admissible}

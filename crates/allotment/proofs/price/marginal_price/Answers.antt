@@ -1,4 +1,4 @@
-use Rattle.std.proofs.Common.{◌≡◌, ℕ, ◌+◌, ◌-◌, ◌<◌, ◌≤◌, length, drop, Some, sym, ap, ◌∙◌, arith}
+use Rattle.std.proofs.Common.{ℕ, ◌+◌, ◌-◌, ◌<◌, ◌≤◌, length, drop, Some, sym, ap, ◌∙◌, arith}
 use Rattle.book.specs.declared.offer.Offer.{Offer}
 use Rattle.book.specs.Model.{model_of}
 use Rattle.allotment_theory.specs.Offered.{reaching}

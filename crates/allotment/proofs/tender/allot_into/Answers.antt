@@ -1,11 +1,9 @@
-use Rattle.std.proofs.Common.{◌≡◌, ℕ, ◌≤◌, Bool, List, length, take, drop, replicate, sum, sym, refl, ap, ◌∙◌, subst, arith}
+use Rattle.std.proofs.Common.{◌≡◌, ℕ, ◌≤◌, Bool, length, take, drop, sum, sym, refl, ap, ◌∙◌, arith}
 use Rattle.sharing.proofs.Codes.{at_accepted}
-use Rattle.stages.specs.Kinds.{row_of}
 use Rattle.book.specs.Model.{model_of}
 use Rattle.book.specs.Offers.{capped}
 use Rattle.allotment_theory.specs.Receipts.{receipts_of, paid_at}
-use Rattle.allotment.specs.declared.pay.BuyerRow.{BuyerRow}
-use Rattle.allotment.specs.Rows.{rows_of, billed_of, no_row}
+use Rattle.allotment.specs.Rows.{rows_of, billed_of}
 use Rattle.allotment.proofs.Accepted.{accepts}
 use Rattle.allotment.proofs.tender.allot_into.Goals as goal
 

@@ -1,4 +1,4 @@
-use Rattle.std.proofs.Common.{◌≡◌, length, ap, ◌∙◌}
+use Rattle.std.proofs.Common.{length, ◌∙◌}
 use Rattle.book.specs.Model.{model_of}
 use Rattle.allotment_theory.proofs.Ties.{standing}
 use Rattle.allotment.proofs.Promises.{keeps}

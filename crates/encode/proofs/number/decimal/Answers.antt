@@ -1,8 +1,7 @@
-use Rattle.std.proofs.Common.{◌≡◌, ℕ, ◌+◌, false, eqb, length, drop, Option, sym, ap, ◌∙◌, arith}
+use Rattle.std.proofs.Common.{ℕ, ◌+◌, length, drop, Option, sym, ap, ◌∙◌, arith}
 use Rattle.std.proofs.lemmas.List.{drop_all}
 use Rattle.std.proofs.lemmas.Bool.{eqb-false}
-use Rattle.std.proofs.lemmas.Bool.Decides.{nat_tests}
-use Rattle.encode.specs.Numbers.{onward, digits, number_in}
+use Rattle.encode.specs.Numbers.{onward, digits}
 use Rattle.encode.proofs.Reading.{digits_more, number_some}
 use Rattle.encode.proofs.number.decimal.Goals as goal
 

@@ -1,4 +1,4 @@
-use Rattle.std.proofs.Common.{◌≡◌, ◌≤◌, length, vec_items, arith, rules}
+use Rattle.std.proofs.Common.{◌≡◌, ◌≤◌, length, vec_items, rules}
 use Rattle.messages.specs.Messages.{value_bytes}
 use Rattle.messages.proofs.Wrote.{wrote}
 use Rattle.messages.proofs.writer.write_message.Goals as goal

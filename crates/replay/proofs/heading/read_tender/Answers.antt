@@ -1,4 +1,4 @@
-use Rattle.std.proofs.Common.{◌∙◌, arith, rules}
+use Rattle.std.proofs.Common.{◌∙◌, arith}
 use Rattle.std.proofs.lemmas.Result.{err_from_is_err_and}
 use Rattle.replay.proofs.Heads.{drawn, filed_for, not_drawn, not_filed}
 use Rattle.replay.proofs.heading.read_tender.Goals as goal

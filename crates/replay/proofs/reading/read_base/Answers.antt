@@ -1,4 +1,3 @@
-use Rattle.std.proofs.Common.{rules}
 use Rattle.replay.proofs.Tags.{not_base}
 use Rattle.replay.proofs.Walk.{misplaced}
 use Rattle.replay.proofs.reading.read_base.Goals as goal

@@ -1,4 +1,4 @@
-use Rattle.std.proofs.Common.{◌≡◌, ℕ, ◌-◌, ◌≤◌, [], length, take}
+use Rattle.std.proofs.Common.{◌≡◌, ◌-◌, ◌≤◌, [], length, take}
 use Rattle.stages.specs.declared.terms.Terms.{Terms}
 use Rattle.messages.specs.Reading.{file_of, next_place}
 use Rattle.replay.specs.Files.{Leads}

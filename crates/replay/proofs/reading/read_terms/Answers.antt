@@ -1,4 +1,4 @@
-use Rattle.std.proofs.Common.{◌≡◌, sym, subst}
+use Rattle.std.proofs.Common.{sym, subst}
 use Rattle.replay.specs.Stages.{Step}
 use Rattle.replay.specs.Stages.Stage.{Start, Filing}
 use Rattle.replay.specs.Stages.Step.{terms}

@@ -1,4 +1,4 @@
-use Rattle.std.proofs.Common.{◌≡◌, ℕ, IfOk, ap, subst}
+use Rattle.std.proofs.Common.{IfOk, subst}
 use Rattle.sharing.specs.Shares.{largest_remainder}
 use Rattle.sharing.specs.TimeOrder.{in_turn}
 use Rattle.tender_run.specs.declared.running.Outcome.{Outcome}

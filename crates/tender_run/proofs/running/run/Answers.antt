@@ -1,4 +1,4 @@
-use Rattle.std.proofs.Common.{◌≡◌, ℕ, length, sym, ap, ◌∙◌, arith}
+use Rattle.std.proofs.Common.{◌≡◌, ℕ, length, sym, ap, ◌∙◌}
 use Rattle.stages.specs.declared.particulars.Particulars.{Particulars}
 use Rattle.tender_run.specs.Runs.{run_code}
 use Rattle.tender_run.proofs.Lent.{asked, moved}

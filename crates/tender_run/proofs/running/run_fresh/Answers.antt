@@ -1,4 +1,4 @@
-use Rattle.std.proofs.Common.{◌≡◌, ℕ, ◌≤◌, IfOk, ap, ◌∙◌, subst}
+use Rattle.std.proofs.Common.{ℕ, ◌≤◌, IfOk, ◌∙◌, subst}
 use Rattle.tender_run.specs.declared.running.Outcome.{Outcome}
 use Rattle.tender_run.specs.Promise.{RunPromise}
 use Rattle.tender_run.proofs.Lent.{met_by}

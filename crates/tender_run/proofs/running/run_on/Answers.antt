@@ -1,7 +1,7 @@
-use Rattle.std.proofs.Common.{◌≡◌, ℕ, List, length, take, sym, refl, ap, ◌∙◌, subst, arith}
+use Rattle.std.proofs.Common.{◌≡◌, ℕ, List, length, take, sym, ap, ◌∙◌, subst, arith}
 use Rattle.stages.specs.declared.particulars.Particulars.{Particulars}
 use Rattle.book.specs.declared.offer.Offer.{Offer}
-use Rattle.book.specs.Model.{Model, model_of, space, fresh}
+use Rattle.book.specs.Model.{Model, model_of}
 use Rattle.book.specs.Soundness.{Sound}
 use Rattle.book.specs.Told.{tally}
 use Rattle.allotment_theory.proofs.Arriving.{in_priority}

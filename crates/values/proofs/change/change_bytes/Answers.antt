@@ -1,4 +1,4 @@
-use Rattle.std.proofs.Common.{◌≡◌, length, ap, ◌∙◌, arith, rules}
+use Rattle.std.proofs.Common.{◌≡◌, length, ap, ◌∙◌, rules}
 use Rattle.values.specs.Fields.{Half, Word}
 use Rattle.values.specs.Values.{change_in}
 use Rattle.values.proofs.Encoding.{change_laid, change_there}

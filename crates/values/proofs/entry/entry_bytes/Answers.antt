@@ -1,5 +1,5 @@
-use Rattle.std.proofs.Common.{◌≡◌, length, ap, ◌∙◌, arith, rules}
-use Rattle.values.specs.Fields.{Half, Word}
+use Rattle.std.proofs.Common.{◌≡◌, length, ap, ◌∙◌, rules}
+use Rattle.values.specs.Fields.{Word}
 use Rattle.values.specs.Values.{entry_in}
 use Rattle.values.proofs.Encoding.{entry_laid, entry_there}
 use Rattle.values.proofs.entry.entry_bytes.Goals as goal

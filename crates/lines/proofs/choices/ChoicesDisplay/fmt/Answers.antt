@@ -1,4 +1,4 @@
-use Rattle.std.proofs.Common.{◌≡◌, ℕ, List, ◌++◌, codes, decimal, ap, ◌∙◌, subst}
+use Rattle.std.proofs.Common.{ℕ, List, ◌++◌, codes, decimal, ap, ◌∙◌, subst}
 use lib.Utf8.{encode}
 use Rattle.std.specs.Fmt.{HasWritten}
 use Rattle.stages.specs.declared.kind.KindRow.{KindRow}
