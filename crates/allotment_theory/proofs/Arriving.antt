@@ -1,6 +1,6 @@
 -- Standing offers stand in order of price, and at one price in order of arrival.
 use Rattle.std.proofs.Common.{◌≡◌, ℕ, zero, suc, ◌+◌, ◌<◌, ◌≤◌, Bool, true, false, cond, not, eqb, ◌⊎◌, List, [], ◌∷◌, map, is_some, Some, None, Option, sym, refl, ap, ◌∙◌, subst, inl, inr, ⊎_elim, arith}
-use Rattle.std.specs.List.{AllByRecursion as All}
+use Rattle.std.specs.List.{AllByRecursion}
 use Rattle.std.proofs.ByRecursion.{All-weaker}
 use Rattle.std.proofs.lemmas.Bool.{and_from, and_left, and_right, cases_Bool, cond_both, cond-true, cond-false, eq-eqb, ne_eqb, eqb-true, false≢true, leb-true, leb-false}
 use Rattle.ordered.specs.Behind.{behind, InOrder}
@@ -28,30 +28,30 @@ pub record Ahead (at : ℕ → ℕ) (x y : Offer) : Type 0 where
 
 abbrev Ranked : (ℕ → ℕ) → List Offer → Type 0
 Ranked at [] = Unit {0}
-Ranked at (o ∷ os) = All (Ahead at o) os × Ranked at os
+Ranked at (o ∷ os) = AllByRecursion (Ahead at o) os × Ranked at os
 
 -- an arrival that is kept
 abbrev Kept : (ℕ → ℕ) → (ℕ → ℕ) → Offer → Type 0
 Kept at new o = new o.number ≡ at o.number
 
 module _ (at new : ℕ → ℕ) where
-  again : (x : Offer) → Kept at new x → (os : List Offer) → All (Kept at new) os → All (Ahead at x) os → All (Ahead new x) os
+  again : (x : Offer) → Kept at new x → (os : List Offer) → AllByRecursion (Kept at new) os → AllByRecursion (Ahead at x) os → AllByRecursion (Ahead new x) os
   again x k [] ks a = tt
   again x k (o ∷ os) ks a = (record { price = a.0.price; earlier = λ e. omega (arith, a.0.earlier e, k, ks.0) }, again x k os ks.1 a.1)
 
-  ranked_again : (os : List Offer) → All (Kept at new) os → Ranked at os → Ranked new os
+  ranked_again : (os : List Offer) → AllByRecursion (Kept at new) os → Ranked at os → Ranked new os
   ranked_again [] ks r = tt
   ranked_again (o ∷ os) ks r = (again o ks.0 os ks.1 r.0, ranked_again os ks.1 r.1)
 
 -- an offer put in that comes after all others
 module _ (at : ℕ → ℕ) (o : Offer) where
-  dearer : (y : Offer) → o.price < y.price → (ys : List Offer) → All (λ z. cheaper y z ≡ true) ys → All (Ahead at o) ys
+  dearer : (y : Offer) → o.price < y.price → (ys : List Offer) → AllByRecursion (λ z. cheaper y z ≡ true) ys → AllByRecursion (Ahead at o) ys
   dearer y lt [] a = tt
   dearer y lt (z ∷ zs) a =
       let le = leb-true y.price z.price a.0 in
       (record { price = omega arith; earlier = λ e. absurd (omega arith) }, dearer y lt zs a.1)
 
-  ranked_behind : (os : List Offer) → InOrder cheaper os → All (λ y. at y.number < at o.number) os → Ranked at os → Ranked at (behind cheaper o os)
+  ranked_behind : (os : List Offer) → InOrder cheaper os → AllByRecursion (λ y. at y.number < at o.number) os → Ranked at os → Ranked at (behind cheaper o os)
   ranked_behind [] ord early r = (tt, tt)
   ranked_behind (y ∷ ys) ord early r =
       cond_both (cheaper y o) (y ∷ behind cheaper o ys) (o ∷ y ∷ ys) (Ranked at)
@@ -64,9 +64,9 @@ module _ (at : ℕ → ℕ) (o : Offer) where
 
 -- an offer taken out
 module _ (test : Offer → Bool) where
-  all_out : (P : Offer → Type 0) (xs : List Offer) → All P xs → All P (without_first test xs)
+  all_out : (P : Offer → Type 0) (xs : List Offer) → AllByRecursion P xs → AllByRecursion P (without_first test xs)
   all_out P [] a = tt
-  all_out P (x ∷ xs) a = cond_both (test x) xs (x ∷ without_first test xs) (All P) (λ _. a.1) (λ _. (a.0, all_out P xs a.1))
+  all_out P (x ∷ xs) a = cond_both (test x) xs (x ∷ without_first test xs) (AllByRecursion P) (λ _. a.1) (λ _. (a.0, all_out P xs a.1))
 
   order_out : (xs : List Offer) → InOrder cheaper xs → InOrder cheaper (without_first test xs)
   order_out [] r = tt
@@ -88,10 +88,10 @@ module _ (n : ℕ) (o : Offer) where
       (λ f. found_number xs (sym (cond-false (has_number n x) (Some x) (first_that (has_number n) xs) f) ∙ e))
       (cases_Bool (has_number n x))
 
-others : (n : ℕ) (xs : List Offer) → Apart xs → All (λ x. x.number ≡ n → ⊥) (without_first (has_number n) xs)
+others : (n : ℕ) (xs : List Offer) → Apart xs → AllByRecursion (λ x. x.number ≡ n → ⊥) (without_first (has_number n) xs)
 others n [] d = tt
 others n (x ∷ xs) d =
-    cond_both (has_number n x) xs (x ∷ without_first (has_number n) xs) (All (λ z. z.number ≡ n → ⊥))
+    cond_both (has_number n x) xs (x ∷ without_first (has_number n) xs) (AllByRecursion (λ z. z.number ≡ n → ⊥))
     (λ t. let is = eqb-true x.number n t in All-weaker (λ z. z.number ≡ x.number → ⊥) (λ z. z.number ≡ n → ⊥) (λ z h e. h (e ∙ sym is)) xs d.0)
     (λ f. ((λ e. false≢true (sym f ∙ eq-eqb x.number n e)), others n xs d.1))
 
@@ -102,7 +102,7 @@ after t bs m c k at x = cond (comes t bs m c x) k (at x)
 -- what holds after each call: ranked by arrival, and each arrival is from 1 to before k
 pub record Timed (m : Model) (k : ℕ) (at : ℕ → ℕ) : Type 0 where
   pub ranked : Ranked at m.list
-  pub times : All (λ o. (1 ≤ at o.number) × (at o.number < k)) m.list
+  pub times : AllByRecursion (λ o. (1 ≤ at o.number) × (at o.number < k)) m.list
 
 sound_told : (t : Open) (bs : List Buyer) (m : Model) (c : call.Call) → Sound m → Sound (told t 512 m c bs)
 sound_told t bs m (calls.Enter e) s = sound_entered t 512 m e bs s
@@ -110,16 +110,16 @@ sound_told t bs m (calls.Change c) s = sound_changed t 512 m c s
 sound_told t bs m (calls.Cancel c) s = sound_cancelled t 512 m c s
 
 -- a list whose offers keep their arrivals
-kept_timed : (k : ℕ) (at new : ℕ → ℕ) (os : List Offer) → All (Kept at new) os → All (λ o. (1 ≤ at o.number) × (at o.number < k)) os → All (λ o. (1 ≤ new o.number) × (new o.number < suc k)) os
+kept_timed : (k : ℕ) (at new : ℕ → ℕ) (os : List Offer) → AllByRecursion (Kept at new) os → AllByRecursion (λ o. (1 ≤ at o.number) × (at o.number < k)) os → AllByRecursion (λ o. (1 ≤ new o.number) × (new o.number < suc k)) os
 kept_timed k at new [] ks a = tt
 kept_timed k at new (o ∷ os) ks a = ((omega (arith, ks.0, a.0.0), omega (arith, ks.0, a.0.1)), kept_timed k at new os ks.1 a.1)
 
-early : (k : ℕ) (at new : ℕ → ℕ) (n : ℕ) (os : List Offer) → new n ≡ k → All (Kept at new) os → All (λ o. (1 ≤ at o.number) × (at o.number < k)) os → All (λ y. new y.number < new n) os
+early : (k : ℕ) (at new : ℕ → ℕ) (n : ℕ) (os : List Offer) → new n ≡ k → AllByRecursion (Kept at new) os → AllByRecursion (λ o. (1 ≤ at o.number) × (at o.number < k)) os → AllByRecursion (λ y. new y.number < new n) os
 early k at new n [] is ks a = tt
 early k at new n (o ∷ os) is ks a = (omega (arith, ks.0, a.0.1), early k at new n os is ks.1 a.1)
 
 -- an offer put in
-put_in : (m : Model) (o : Offer) (xs : List Offer) (count time k : ℕ) (at new : ℕ → ℕ) → 1 ≤ k → InOrder cheaper xs → Ranked at xs → All (λ o. (1 ≤ at o.number) × (at o.number < k)) xs → All (Kept at new) xs → new o.number ≡ k → Timed (record { list = behind cheaper o xs; count = count; time = time }) (suc k) new
+put_in : (m : Model) (o : Offer) (xs : List Offer) (count time k : ℕ) (at new : ℕ → ℕ) → 1 ≤ k → InOrder cheaper xs → Ranked at xs → AllByRecursion (λ o. (1 ≤ at o.number) × (at o.number < k)) xs → AllByRecursion (Kept at new) xs → new o.number ≡ k → Timed (record { list = behind cheaper o xs; count = count; time = time }) (suc k) new
 put_in m o xs count time k at new one ord r ts ks is = record {
   ranked = ranked_behind new o xs ord (early k at new o.number xs is ks ts) (ranked_again at new xs ks r);
   times = all_behind cheaper (λ y. (1 ≤ new y.number) × (new y.number < suc k)) o xs (omega arith, omega arith) (kept_timed k at new xs ks ts);
@@ -143,12 +143,12 @@ found t m c z =
     there None f = absurd (false≢true (sym f))
     there (Some o) f = (o, refl)
 
-everywhere : (P : Offer → Type 0) → ((o : Offer) → P o) → (os : List Offer) → All P os
+everywhere : (P : Offer → Type 0) → ((o : Offer) → P o) → (os : List Offer) → AllByRecursion P os
 everywhere P h [] = tt
 everywhere P h (o ∷ os) = (h o, everywhere P h os)
 
 -- a model whose offers keep their arrivals
-same_timed : (m : Model) (k : ℕ) (at new : ℕ → ℕ) → All (Kept at new) m.list → Timed m k at → Timed m (suc k) new
+same_timed : (m : Model) (k : ℕ) (at new : ℕ → ℕ) → AllByRecursion (Kept at new) m.list → Timed m k at → Timed m (suc k) new
 same_timed m k at new ks h = record { ranked = ranked_again at new m.list ks h.ranked; times = kept_timed k at new m.list ks h.times }
 
 module _ (t : Open) (bs : List Buyer) (m : Model) (k : ℕ) (at : ℕ → ℕ) (one : 1 ≤ k) (s : Sound m) (h : Timed m k at) where
@@ -191,7 +191,7 @@ module _ (t : Open) (bs : List Buyer) (m : Model) (k : ℕ) (at : ℕ → ℕ) (
       let os = m.list in
       let test = has_number c.number in
       let more : Model = record { list = without c.number os; count = m.count; time = c.time } in
-      let keep : (l : List Offer) → All (Kept at new) l = everywhere (Kept at new) (λ o. cond-false (comes t bs m (calls.Cancel c) o.number) k (at o.number) (and_right (eqb code 0) false refl)) in
+      let keep : (l : List Offer) → AllByRecursion (Kept at new) l = everywhere (Kept at new) (λ o. cond-false (comes t bs m (calls.Cancel c) o.number) k (at o.number) (and_right (eqb code 0) false refl)) in
       cond_both (eqb code 0) more m (λ (x : Model). Timed x (suc k) new)
       (λ z. record {
         ranked = ranked_again at new (without c.number os) (keep (without c.number os)) (ranked_out test at os h.ranked);
@@ -267,11 +267,11 @@ module _ (t : Open) (bs : List Buyer) where
         let cy = came_at y.number sy in
         record { price = a.price; earlier = λ e. (cx.0, cy.0, cx.1, cy.1, omega (arith, a.earlier e, cx.2, cy.2)) }
 
-    all_before : (n : ℕ) (x : Offer) → 1 ≤ at_last x.number → (os : List Offer) → All (λ o. (1 ≤ at_last o.number) × (at_last o.number < n)) os → All (Ahead at_last x) os → All (Before t bs fresh cs x) os
+    all_before : (n : ℕ) (x : Offer) → 1 ≤ at_last x.number → (os : List Offer) → AllByRecursion (λ o. (1 ≤ at_last o.number) × (at_last o.number < n)) os → AllByRecursion (Ahead at_last x) os → AllByRecursion (Before t bs fresh cs x) os
     all_before n x some [] ts a = tt
     all_before n x some (o ∷ os) ts a = (before x o some ts.0.0 a.0, all_before n x some os ts.1 a.1)
 
-    by_priority : (n : ℕ) (os : List Offer) → All (λ o. (1 ≤ at_last o.number) × (at_last o.number < n)) os → Ranked at_last os → ByPriority t bs fresh cs os
+    by_priority : (n : ℕ) (os : List Offer) → AllByRecursion (λ o. (1 ≤ at_last o.number) × (at_last o.number < n)) os → Ranked at_last os → ByPriority t bs fresh cs os
     by_priority n [] ts r = tt
     by_priority n (o ∷ os) ts r = (all_before n o ts.0.0 os ts.1 r.0, by_priority n os ts.1 r.1)
 

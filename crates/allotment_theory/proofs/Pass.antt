@@ -1,6 +1,6 @@
 -- A pass through an ordered list finds the marginal price.
 use Rattle.std.proofs.Common.{◌≡◌, ℕ, ◌+◌, ◌-◌, ◌<◌, ◌≤◌, Bool, true, false, cond, eqb, leb, ◌⊎◌, List, [], ◌∷◌, Some, None, refl, ap, ◌∙◌, ⊎_elim, arith}
-use Rattle.std.specs.List.{AllByRecursion as All}
+use Rattle.std.specs.List.{AllByRecursion}
 use Rattle.std.proofs.lemmas.List.Sums.{sum_by-cons}
 use Rattle.std.proofs.lemmas.Bool.{cases_lt, cases_Bool, leb-true, leb-false, ne_eqb}
 use Rattle.std.proofs.lemmas.Bool.Decides.{nat_tests}
@@ -21,7 +21,7 @@ pub up_to_cons : (q : ℕ) (o : Offer) (os : List Offer) → up_to q (o ∷ os) 
 up_to_cons q o os = sum_by-cons (at_most q) o os
 
 -- below each price nothing is offered
-none : (q : ℕ) (o : Offer) (os : List Offer) → All (λ x. cheaper o x ≡ true) os → q < o.price → up_to q os ≡ 0
+none : (q : ℕ) (o : Offer) (os : List Offer) → AllByRecursion (λ x. cheaper o x ≡ true) os → q < o.price → up_to q os ≡ 0
 none q o [] a lt = refl
 none q o (x ∷ xs) a lt =
     let le = leb-true o.price x.price a.0 in

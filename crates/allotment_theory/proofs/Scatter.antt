@@ -1,6 +1,6 @@
 -- Fills written by the numbers of their offers keep their total.
 use Rattle.std.proofs.Common.{◌≡◌, ℕ, zero, suc, ◌+◌, ◌<◌, ◌≤◌, List, [], ◌∷◌, map, length, get_or, set, replicate, sum, sym, refl, ap, ◌∙◌, arith}
-use Rattle.std.specs.List.{AllByRecursion as All}
+use Rattle.std.specs.List.{AllByRecursion}
 use Rattle.std.proofs.lemmas.List.Sums.{sum_by-cons, sum_by-set}
 use Rattle.std.proofs.lemmas.List.{length-set, get_or-set_same, get_or-set_other, get_or-replicate}
 use Rattle.std.proofs.ByRecursion.{All-weaker}
@@ -13,14 +13,14 @@ use Rattle.allotment_theory.specs.Theorems.{ScatterTotal, Gathers}
 abbrev Free : List ℕ → Offer → Type 0
 Free row o = (o.number < length row) × (get_or row o.number 0 ≡ 0)
 
-still : (row : List ℕ) (o : Offer) (x : ℕ) (os : List Offer) → All (λ q. q.number ≡ o.number → ⊥) os → All (Free row) os → All (Free (set row o.number x)) os
+still : (row : List ℕ) (o : Offer) (x : ℕ) (os : List Offer) → AllByRecursion (λ q. q.number ≡ o.number → ⊥) os → AllByRecursion (Free row) os → AllByRecursion (Free (set row o.number x)) os
 still row o x [] apart free = tt
 still row o x (q ∷ qs) apart free =
     let long = length-set row o.number x in
     let same = get_or-set_other row o.number q.number x 0 apart.0 in
     ((omega (arith, free.0.0), same ∙ free.0.1), still row o x qs apart.1 free.1)
 
-adds : (os : List Offer) (xs row : List ℕ) → Apart os → All (Free row) os → length xs ≡ length os → sum (scattered os xs row) ≡ sum row + sum xs
+adds : (os : List Offer) (xs row : List ℕ) → Apart os → AllByRecursion (Free row) os → length xs ≡ length os → sum (scattered os xs row) ≡ sum row + sum xs
 adds [] [] row apart free long = omega arith
 adds [] (x ∷ xs) row apart free long = absurd (omega arith)
 adds (o ∷ os) [] row apart free long = absurd (omega arith)
@@ -33,7 +33,7 @@ zeros : (n : ℕ) → sum (replicate n 0) ≡ 0
 zeros zero = refl
 zeros (suc n) = omega (arith, sum_by-cons (λ (k : ℕ). k) 0 (replicate n 0), zeros n)
 
-fresh : (os : List Offer) → All (λ o. o.number ≤ 511) os → All (Free (replicate 512 0)) os
+fresh : (os : List Offer) → AllByRecursion (λ o. o.number ≤ 511) os → AllByRecursion (Free (replicate 512 0)) os
 fresh [] small = tt
 fresh (o ∷ os) small = ((omega (arith, small.0), get_or-replicate 512 o.number 0 0 (omega (arith, small.0))), fresh os small.1)
 
@@ -41,12 +41,12 @@ pub scatter_total : ScatterTotal
 scatter_total os xs apart small long = omega (arith, adds os xs (replicate 512 0) apart (fresh os small) long, zeros 512)
 
 -- a number that none of the offers has keeps what stands there
-untouched : (n : ℕ) (os : List Offer) (xs row : List ℕ) → All (λ q. n ≡ q.number → ⊥) os → get_or (scattered os xs row) n 0 ≡ get_or row n 0
+untouched : (n : ℕ) (os : List Offer) (xs row : List ℕ) → AllByRecursion (λ q. n ≡ q.number → ⊥) os → get_or (scattered os xs row) n 0 ≡ get_or row n 0
 untouched n [] xs row a = refl
 untouched n (o ∷ os) [] row a = refl
 untouched n (o ∷ os) (x ∷ xs) row a = untouched n os xs (set row o.number x) a.1 ∙ get_or-set_other row o.number n x 0 a.0
 
-gathers_from : (os : List Offer) (xs row : List ℕ) → Apart os → All (λ o. o.number < length row) os → length xs ≡ length os → gathered os (scattered os xs row) ≡ xs
+gathers_from : (os : List Offer) (xs row : List ℕ) → Apart os → AllByRecursion (λ o. o.number < length row) os → length xs ≡ length os → gathered os (scattered os xs row) ≡ xs
 gathers_from [] [] row apart small long = refl
 gathers_from [] (x ∷ xs) row apart small long = absurd (omega arith)
 gathers_from (o ∷ os) [] row apart small long = absurd (omega arith)

@@ -1,6 +1,6 @@
 -- The offers at a price are claims that a rule can share among.
 use Rattle.std.proofs.Common.{◌≡◌, ℕ, ◌<◌, ◌≤◌, Bool, true, false, not, ◌&&◌, ◌||◌, eqb, leb, List, [], ◌∷◌, map, length, filter, sym, refl, ap, ◌∙◌, arith}
-use Rattle.std.specs.List.{AllByRecursion as All}
+use Rattle.std.specs.List.{AllByRecursion}
 use Rattle.std.proofs.ByRecursion.{all_kept_by}
 use Rattle.std.proofs.lemmas.List.{length-map}
 use Rattle.std.proofs.lemmas.List.Sums.{length-filter, count_by-le-length}
@@ -16,7 +16,7 @@ use Rattle.allotment_theory.specs.Fills.{tied, claim_of}
 use Rattle.allotment_theory.specs.Theorems.{TiesAdmissible}
 
 -- the offers of a sound book
-singles : (n : ℕ) (os : List Offer) → n ≤ 512 → All (λ o. o.number < n) os → All (λ o. (1 ≤ o.price) × (o.price ≤ 920000)) os → All (λ o. (1 ≤ o.lots) × (o.lots ≤ 1000000)) os → All Single os
+singles : (n : ℕ) (os : List Offer) → n ≤ 512 → AllByRecursion (λ o. o.number < n) os → AllByRecursion (λ o. (1 ≤ o.price) × (o.price ≤ 920000)) os → AllByRecursion (λ o. (1 ≤ o.lots) × (o.lots ≤ 1000000)) os → AllByRecursion Single os
 singles n [] le a b c = tt
 singles n (o ∷ os) le a b c = ((omega (arith, a.0), b.0.0, b.0.1, c.0.0, c.0.1), singles n os le a.1 b.1 c.1)
 
@@ -40,7 +40,7 @@ abbrev numbers : List Offer → List ℕ
 numbers os = map (λ (c : Claim). c.number) (map claim_of os)
 
 -- a number that none of the offers has is not among theirs
-absent : (n : ℕ) (os : List Offer) → All (λ x. x.number ≡ n → ⊥) os → among n (numbers os) ≡ false
+absent : (n : ℕ) (os : List Offer) → AllByRecursion (λ x. x.number ≡ n → ⊥) os → among n (numbers os) ≡ false
 absent n [] a = refl
 absent n (o ∷ os) a = ap (λ (b : Bool). b || among n (numbers os)) (ne_eqb n o.number (λ e. a.0 (sym e))) ∙ absent n os a.1
 
@@ -53,7 +53,7 @@ within o s =
     and_from (leb o.number 511) (leb 1 o.lots && leb o.lots 1000000) (le-leb o.number 511 s.0)
     (and_from (leb 1 o.lots) (leb o.lots 1000000) (le-leb 1 o.lots s.3) (le-leb o.lots 1000000 s.4))
 
-all_within : (os : List Offer) → All Single os → all_within_limits (map claim_of os) ≡ true
+all_within : (os : List Offer) → AllByRecursion Single os → all_within_limits (map claim_of os) ≡ true
 all_within [] a = refl
 all_within (o ∷ os) a = and_from (within_limits (claim_of o)) (all_within_limits (map claim_of os)) (within o a.0) (all_within os a.1)
 

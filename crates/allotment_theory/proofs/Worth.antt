@@ -1,6 +1,6 @@
 -- The receipts of a row are the worth of its fills, and 64 bits hold them.
 use Rattle.std.proofs.Common.{◌≡◌, ℕ, ◌+◌, ◌-◌, ◌*◌, ◌≤◌, eqb, leb, List, [], ◌∷◌, get_or, Some, None, sum, Option, refl, ap, ◌∙◌, mul_assoc, arith}
-use Rattle.std.specs.List.{AllByRecursion as All}
+use Rattle.std.specs.List.{AllByRecursion}
 use Rattle.std.proofs.lemmas.Nat.{mul-le}
 use Rattle.std.proofs.ByRecursion.{All-weaker}
 use Rattle.std.proofs.lemmas.List.Sums.{sum_by-cons}
@@ -21,18 +21,18 @@ receipts_worth unit price (o ∷ os) row =
     ∙ ap (λ (n : ℕ). get_or row o.number 0 * unit * price o + n) (receipts_worth unit price os row)
 
 -- the marginal price is one of the prices
-low_price : (most : ℕ) (due : ℕ) (os : List Offer) → All (λ o. o.price ≤ most) os → price_or_0 (reaching due os) ≤ most
+low_price : (most : ℕ) (due : ℕ) (os : List Offer) → AllByRecursion (λ o. o.price ≤ most) os → price_or_0 (reaching due os) ≤ most
 low_price most due [] a = omega arith
 low_price most due (o ∷ os) a =
     cond_both (leb due o.lots) (Some o.price) (reaching (due - o.lots) os) (λ (p : Option ℕ). price_or_0 p ≤ most)
     (λ _. a.0)
     (λ _. low_price most (due - o.lots) os a.1)
 
-low_marginal : (most : ℕ) (due : ℕ) (os : List Offer) → All (λ o. o.price ≤ most) os → price_or_0 (marginal_of due os) ≤ most
+low_marginal : (most : ℕ) (due : ℕ) (os : List Offer) → AllByRecursion (λ o. o.price ≤ most) os → price_or_0 (marginal_of due os) ≤ most
 low_marginal most due os a =
     cond_both (eqb due 0) None (reaching due os) (λ (p : Option ℕ). price_or_0 p ≤ most) (λ _. omega arith) (λ _. low_price most due os a)
 
-paid_low : (most : ℕ) (method : Method) (p : ℕ) → p ≤ most → (os : List Offer) → All (λ o. o.price ≤ most) os → All (λ o. paid_at method p o ≤ most) os
+paid_low : (most : ℕ) (method : Method) (p : ℕ) → p ≤ most → (os : List Offer) → AllByRecursion (λ o. o.price ≤ most) os → AllByRecursion (λ o. paid_at method p o ≤ most) os
 paid_low most OnePrice p le [] a = tt
 paid_low most OnePrice p le (o ∷ os) a = (le, paid_low most OnePrice p le os a.1)
 paid_low most AsOffered p le os a = a

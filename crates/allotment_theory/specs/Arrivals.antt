@@ -1,6 +1,6 @@
 -- The order in which standing offers came, told by the calls that were made.
 use Rattle.std.specs.Prelude.{◌≡◌, ℕ, zero, suc, ◌<◌, ◌≤◌, Bool, true, false, ◌&&◌, List, [], ◌∷◌, map, ◌==◌}
-use Rattle.std.specs.List.{AllByRecursion as All}
+use Rattle.std.specs.List.{AllByRecursion}
 use Rattle.stages.specs.declared.opened.Open.{Open}
 use Rattle.stages.specs.declared.terms.Buyer.{Buyer}
 use Rattle.book.specs.declared.call.Call as call
@@ -39,7 +39,7 @@ pub record Before (t : Open) (bs : List Buyer) (m : Model) (cs : List call.Call)
 -- Each offer of the list stands before each later one by right.
 abbrev pub ByPriority : Open → List Buyer → Model → List call.Call → List Offer → Type 0
 ByPriority t bs m cs [] = Unit {0}
-ByPriority t bs m cs (o ∷ os) = All (Before t bs m cs o) os × ByPriority t bs m cs os
+ByPriority t bs m cs (o ∷ os) = AllByRecursion (Before t bs m cs o) os × ByPriority t bs m cs os
 
 -- After any calls on a fresh book the standing offers stand in order of price, and equal prices in order of arrival.
 abbrev pub InPriority : Type 0

@@ -1,6 +1,6 @@
 -- What stands in a book, what is due of it, and the marginal price.
 use Rattle.std.specs.Prelude.{ℕ, ◌-◌, ◌<◌, ◌≤◌, cond, List, [], ◌∷◌, length, Some, None, sum_by, Option, ◌==◌, nat_le, nat_lt}
-use Rattle.std.specs.List.{AllByRecursion as All}
+use Rattle.std.specs.List.{AllByRecursion}
 use Rattle.ordered.specs.Behind.{InOrder}
 use Rattle.stages.specs.declared.shortfall.Shortfall.{Shortfall}
 use Rattle.stages.specs.declared.shortfall.Shortfall.TheVariants.{Take, Void}
@@ -51,5 +51,5 @@ Single o = (o.number ≤ 511) × (1 ≤ o.price) × (o.price ≤ 920000) × (1 �
 pub record Standing (os : List Offer) : Type 0 where
   pub few : length os ≤ 512
   pub order : InOrder cheaper os
-  pub each : All Single os
+  pub each : AllByRecursion Single os
   pub apart : Apart os

@@ -1,6 +1,6 @@
 -- The laws of an allotment.
 use Rattle.std.specs.Prelude.{◌≡◌, ℕ, ◌-◌, ◌*◌, ◌^◌, ◌<◌, ◌≤◌, true, List, length, replicate, Some, sum}
-use Rattle.std.specs.List.{AllByRecursion as All}
+use Rattle.std.specs.List.{AllByRecursion}
 use Rattle.ordered.specs.Behind.{InOrder}
 use Rattle.stages.specs.declared.method.Method.{Method}
 use Rattle.sharing.specs.declared.claim.Claim.{Claim}
@@ -58,7 +58,7 @@ abbrev pub ScatterTotal : Type 0
 ScatterTotal =
     (os : List Offer) (xs : List ℕ) →
     Apart os →
-    All (λ o. o.number ≤ 511) os →
+    AllByRecursion (λ o. o.number ≤ 511) os →
     length xs ≡ length os →
     sum (scattered os xs (replicate 512 0)) ≡ sum xs
 
@@ -66,7 +66,7 @@ ScatterTotal =
 abbrev pub WorthBounded : Type 0
 WorthBounded =
     (unit most : ℕ) (price : Offer → ℕ) (os : List Offer) (xs : List ℕ) →
-    All (λ o. price o ≤ most) os →
+    AllByRecursion (λ o. price o ≤ most) os →
     worth unit price os xs ≤ sum xs * (unit * most)
 
 -- A meaning of shares that is fair to claims which can be shared among.
@@ -89,7 +89,7 @@ abbrev pub Gathers : Type 0
 Gathers =
     (os : List Offer) (xs : List ℕ) →
     Apart os →
-    All (λ o. o.number ≤ 511) os →
+    AllByRecursion (λ o. o.number ≤ 511) os →
     length xs ≡ length os →
     gathered os (row_of os xs) ≡ xs
 

@@ -1,6 +1,6 @@
 -- An offer put behind those that may stand before it.
 use Rattle.std.proofs.Common.{◌≡◌, ◌+◌, List, [], ◌∷◌, length, sym, arith}
-use Rattle.std.specs.List.{AllByRecursion as All}
+use Rattle.std.specs.List.{AllByRecursion}
 use Rattle.std.proofs.lemmas.Bool.{cond_both, leb-true, leb-false, le-leb}
 use Rattle.ordered.specs.Behind.{behind}
 use Rattle.ordered.specs.Ranks.{Total, Transitive}
@@ -24,7 +24,7 @@ length_behind o (y ∷ ys) =
     cond_both (cheaper y o) (y ∷ behind cheaper o ys) (o ∷ y ∷ ys) (λ zs. length zs ≡ length (y ∷ ys) + 1) (λ _. omega arith) (λ _. omega arith)
 
 -- an offer under a number of its own leaves the numbers apart
-pub apart_behind : (o : Offer) (xs : List Offer) → All (λ x. x.number ≡ o.number → ⊥) xs → Apart xs → Apart (behind cheaper o xs)
+pub apart_behind : (o : Offer) (xs : List Offer) → AllByRecursion (λ x. x.number ≡ o.number → ⊥) xs → Apart xs → Apart (behind cheaper o xs)
 apart_behind o [] a d = (tt, tt)
 apart_behind o (y ∷ ys) a d =
     cond_both (cheaper y o) (y ∷ behind cheaper o ys) (o ∷ y ∷ ys) Apart

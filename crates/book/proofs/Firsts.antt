@@ -1,6 +1,6 @@
 -- The first offer that passes a test, and the list without it.
 use Rattle.std.proofs.Common.{◌≡◌, ℕ, suc, ◌+◌, ◌≤◌, Bool, true, false, List, [], ◌∷◌, length, Some, None, sym, ap, ◌∙◌, subst, ⊎_elim, arith}
-use Rattle.std.specs.List.{ContainsAt as Has, AllByRecursion as All}
+use Rattle.std.specs.List.{ContainsAt as Has, AllByRecursion}
 use Rattle.std.proofs.ByRecursion.{all-has}
 use Rattle.std.proofs.lemmas.Bool.{cases_Bool, cond_both, cond-true, cond-false}
 use Rattle.ordered.specs.Behind.{InOrder}
@@ -9,7 +9,7 @@ use Rattle.book.specs.Offers.{cheaper, first_that, without_first}
 use Rattle.book.specs.Soundness.{Apart}
 
 -- where none is found, none passes
-pub none_passes : (test : Offer → Bool) (xs : List Offer) → first_that test xs ≡ None → All (λ o. test o ≡ false) xs
+pub none_passes : (test : Offer → Bool) (xs : List Offer) → first_that test xs ≡ None → AllByRecursion (λ o. test o ≡ false) xs
 none_passes test [] e = tt
 none_passes test (x ∷ xs) e =
     ⊎_elim
@@ -32,9 +32,9 @@ one_passes test (x ∷ xs) o e =
 
 module _ (test : Offer → Bool) where
   -- an offer taken out: what holds of each, the order, and the numbers stay
-  pub all_without : (P : Offer → Type 0) (xs : List Offer) → All P xs → All P (without_first test xs)
+  pub all_without : (P : Offer → Type 0) (xs : List Offer) → AllByRecursion P xs → AllByRecursion P (without_first test xs)
   all_without P [] a = tt
-  all_without P (x ∷ xs) a = cond_both (test x) xs (x ∷ without_first test xs) (All P) (λ _. a.1) (λ _. (a.0, all_without P xs a.1))
+  all_without P (x ∷ xs) a = cond_both (test x) xs (x ∷ without_first test xs) (AllByRecursion P) (λ _. a.1) (λ _. (a.0, all_without P xs a.1))
 
   pub in_order_without : (xs : List Offer) → InOrder cheaper xs → InOrder cheaper (without_first test xs)
   in_order_without [] r = tt
@@ -64,11 +64,11 @@ module _ (test : Offer → Bool) where
         (cases_Bool (test x))
 
     -- no other offer has the number of the one found
-    pub others : (xs : List Offer) → first_that test xs ≡ Some o → Apart xs → All (λ x. x.number ≡ o.number → ⊥) (without_first test xs)
+    pub others : (xs : List Offer) → first_that test xs ≡ Some o → Apart xs → AllByRecursion (λ x. x.number ≡ o.number → ⊥) (without_first test xs)
     others [] e d = tt
     others (x ∷ xs) e d =
-        cond_both (test x) xs (x ∷ without_first test xs) (All (λ z. z.number ≡ o.number → ⊥))
+        cond_both (test x) xs (x ∷ without_first test xs) (AllByRecursion (λ z. z.number ≡ o.number → ⊥))
         (λ t. let here = cond-true (test x) (Some x) (first_that test xs) t in let same : x ≡ o = cc in
-        subst (λ (y : Offer). All (λ z. z.number ≡ y.number → ⊥) xs) same d.0)
+        subst (λ (y : Offer). AllByRecursion (λ z. z.number ≡ y.number → ⊥) xs) same d.0)
         (λ f. let rest = sym (cond-false (test x) (Some x) (first_that test xs) f) ∙ e in
         ((λ n. all-has (λ z. z.number ≡ x.number → ⊥) xs o d.0 (one_passes test xs o rest).0 (sym n)), others xs rest d.1))

@@ -1,6 +1,6 @@
 -- Each call keeps the condition of the book.
 use Rattle.std.proofs.Common.{◌≡◌, ℕ, ◌+◌, ◌<◌, ◌≤◌, Bool, eqb, List, length, Some, None, Option, refl, arith}
-use Rattle.std.specs.List.{AllByRecursion as All}
+use Rattle.std.specs.List.{AllByRecursion}
 use Rattle.std.proofs.ByRecursion.{all-has, All-weaker}
 use Rattle.std.proofs.lemmas.Bool.{cond_both, eqb-true}
 use Rattle.ordered.specs.Behind.{behind}
@@ -22,7 +22,7 @@ use Rattle.book.proofs.Firsts.{all_without, apart_without, in_order_without, len
 use Rattle.book.proofs.Searching.{stands_first}
 
 -- the model with an offer put in that is under a number of its own
-put_in : (o : Offer) (xs : List Offer) (count time : ℕ) → Sound (record { list = xs; count = count; time = time }) → All (λ x. x.number ≡ o.number → ⊥) xs → o.number < count → length xs < count → InRange o.price o.lots → Sound (record { list = behind cheaper o xs; count = count; time = time })
+put_in : (o : Offer) (xs : List Offer) (count time : ℕ) → Sound (record { list = xs; count = count; time = time }) → AllByRecursion (λ x. x.number ≡ o.number → ⊥) xs → o.number < count → length xs < count → InRange o.price o.lots → Sound (record { list = behind cheaper o xs; count = count; time = time })
 put_in o xs count time s new below room r =
     let long = length_behind o xs in
     record {
@@ -63,7 +63,7 @@ counted m time lt s = record {
 }
 
 -- the number of an entry is new
-new_number : (m : Model) (e : Entry) → Sound m → All (λ o. o.number ≡ (offered m e).number → ⊥) m.list
+new_number : (m : Model) (e : Entry) → Sound m → AllByRecursion (λ o. o.number ≡ (offered m e).number → ⊥) m.list
 new_number m e s = All-weaker (λ o. o.number < m.count) (λ o. o.number ≡ m.count → ⊥) (λ o h x. omega arith) m.list s.numbered
 
 -- an entry keeps the condition

@@ -1,13 +1,13 @@
 -- What a member's question is answered with.
 use Rattle.std.specs.Prelude.{◌≡◌, ℕ, true, false, List, Option, MatchOption}
-use Rattle.std.specs.List.{ContainsAt as Has, AllByRecursion as All}
+use Rattle.std.specs.List.{ContainsAt as Has, AllByRecursion}
 use Rattle.book.specs.declared.finding.Sheet.{Sheet}
 use Rattle.book.specs.declared.offer.Offer.{Offer}
 use Rattle.book.specs.Offers.{of_member}
 
 -- no offer of the member stands
 abbrev pub Without : List ℕ → List Offer → Type 0
-Without member os = All (λ o. of_member o member ≡ false) os
+Without member os = AllByRecursion (λ o. of_member o member ≡ false) os
 
 -- the offer stands, and is the member's
 abbrev pub Own : List ℕ → List Offer → Offer → Type 0

@@ -1,6 +1,6 @@
 -- Lots handed out to the first of a queue, one each.
 use Rattle.std.proofs.Common.{◌≡◌, ℕ, zero, suc, ◌+◌, ◌<◌, ◌≤◌, Bool, eqb, List, [], ◌∷◌, length, get_or, take, set, Some, None, count_by, sym, ap, ◌∙◌, subst, ⊎_elim, suc-le-suc, arith}
-use Rattle.std.specs.List.{slice_get, AllByRecursion as All}
+use Rattle.std.specs.List.{slice_get, AllByRecursion}
 use Rattle.std.proofs.ByRecursion.{All-get_or}
 use Rattle.std.proofs.lemmas.List.{get_or-set_same, get_or-set_other, take_all}
 use Rattle.std.proofs.lemmas.List.Sums.{count_by_more_yes, count_by_more_no}
@@ -51,5 +51,5 @@ module _ {X : Type 0} where
     handed_none i le = ap at_k (take_all (i + 1) xs (omega arith) ∙ sym (take_all i xs le))
 
   -- what holds of each of the list holds of what was read from it
-  pub all_nth : (P : X → Type 0) (xs : List X) (i : ℕ) (x : X) → Some x ≡ slice_get xs i → All P xs → P x
+  pub all_nth : (P : X → Type 0) (xs : List X) (i : ℕ) (x : X) → Some x ≡ slice_get xs i → AllByRecursion P xs → P x
   all_nth P xs i x e all = let at = nth_some xs i x (sym e) in subst P at.1 (All-get_or P xs i x at.0 all)

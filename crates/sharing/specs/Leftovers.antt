@@ -4,7 +4,7 @@ use Rattle.std.proofs.Common.{sym, ap, ◌∙◌, arith}
 use Rattle.ordered.specs.Arranged.{arranged, Untied}
 use Rattle.ordered.specs.Ranks.{Total, Transitive}
 use Rattle.ordered.proofs.Places.{first_served, served_count}
-use Rattle.std.specs.List.{AllByRecursion as All}
+use Rattle.std.specs.List.{AllByRecursion}
 use Rattle.std.proofs.lemmas.Bool.{and_parts, or_parts, eqb-false, not-true}
 use Rattle.std.proofs.lemmas.Bool.Decides.{nat_tests}
 use Rattle.sharing.specs.declared.candidate.Candidate.{Candidate}
@@ -41,7 +41,7 @@ module _ (by : Leftover) (rank : ℕ → ℕ) (a k : ℕ) where
   made = candidate by rank a k
 
   module _ (lawful : Lawful rank) where
-    apart_from : (i : ℕ) (c : Claim) → c.number ≤ 511 → (j : ℕ) (cs : List Claim) → all_within_limits cs ≡ true → among c.number (map (λ d. d.number) cs) ≡ false → All (λ y. may_precede (made i c) y ≡ true → may_precede y (made i c) ≢ true) (lined made j cs)
+    apart_from : (i : ℕ) (c : Claim) → c.number ≤ 511 → (j : ℕ) (cs : List Claim) → all_within_limits cs ≡ true → among c.number (map (λ d. d.number) cs) ≡ false → AllByRecursion (λ y. may_precede (made i c) y ≡ true → may_precede y (made i c) ≢ true) (lined made j cs)
     apart_from i c small j [] within none = tt
     apart_from i c small j (d ∷ ds) within none =
         let limits = first_limits d ds within in
