@@ -10,27 +10,21 @@ work=$(mktemp -d)
 trap 'rm -rf "$work"' EXIT
 
 mkdir -p "$work/crates/misuse/src"
+# what was proved here already, in each crate's out/, need not be proved again
 cp -r "$here/../crates/ordered" "$here/../crates/stages" "$here/../crates/book" "$work/crates/"
 printf 'ordered:\nstages:\nbook: ordered stages\nmisuse: book ordered stages\n' > "$work/crates.txt"
-# what was proved here already need not be proved again
-for part in inc rlib stamp print obj; do
-    if [ -d "$here/../target/$part" ]; then
-        mkdir -p "$work/target"
-        cp -r "$here/../target/$part" "$work/target/"
-    fi
-done
 cp "$here/entry_into_filed.txt" "$work/crates/misuse/src/lib.rt"
 
-cd "$work"
+cd "$work/crates/misuse"
 status=0
-rt dev misuse > "$work/out" 2>&1 || status=$?
-errors=$(grep -c ': error' "$work/out" || true)
-expected=$(grep -cF ': error[mismatched-types]: expected `&Open`, found `&Filed`' "$work/out" || true)
+rt check > "$work/said" 2>&1 || status=$?
+errors=$(grep -c ': error' "$work/said" || true)
+expected=$(grep -cF ': error[mismatched-types]: expected `&Open`, found `&Filed`' "$work/said" || true)
 
 if [ "$status" -ne 0 ] && [ "$errors" -eq 1 ] && [ "$expected" -eq 1 ]; then
     echo "misuse: an entry into a filed tender is turned down, as it must be"
 else
     echo "misuse: expected exactly one error, a type mismatch at the filed tender, and found:" >&2
-    cat "$work/out" >&2
+    cat "$work/said" >&2
     exit 1
 fi

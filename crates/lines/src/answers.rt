@@ -17,10 +17,10 @@ pub struct Answer {
     pub fault: bool,
 }
 
-// Answers the file by its log line, or by the line of the fault that it comes to.
-pub fn answer_line(heap: Global, file: &[u8]) -> Result<Answer, AllocError>
-    ensures answered { IfOk result (λ a. Answered line_of file.now (string_bytes a.text) a.fault) }
-    ensures worked { BookALine }
+// The log line of the file's report, or the line of the fault that it comes to.
+#[tactic(auto, using(crate::proofs::Answering::tells_report, crate::proofs::Answering::tells_fault))]
+fn line_or_fault(heap: Global, file: &[u8]) -> Result<Answer, AllocError>
+    ensures { IfOk result (λ a. Answered line_of file.now (string_bytes a.text) a.fault) }
 {
     match run(file) {
         Ok(report) => Ok(Answer {
@@ -34,7 +34,16 @@ pub fn answer_line(heap: Global, file: &[u8]) -> Result<Answer, AllocError>
     }
 }
 
+// Answers the file by its log line, or by the line of the fault that it comes to.
+pub fn answer_line(heap: Global, file: &[u8]) -> Result<Answer, AllocError>
+    ensures answered { IfOk result (λ a. Answered line_of file.now (string_bytes a.text) a.fault) }
+    ensures worked { BookALine }
+{
+    line_or_fault(heap, file)
+}
+
 // Answers the file by its statement, or by the line of the fault that it comes to.
+#[tactic(auto, using(crate::proofs::Answering::tells_report, crate::proofs::Answering::tells_fault))]
 pub fn answer_statement(heap: Global, file: &[u8]) -> Result<Answer, AllocError>
     ensures { IfOk result (λ a. Answered statement_of file.now (string_bytes a.text) a.fault) }
 {

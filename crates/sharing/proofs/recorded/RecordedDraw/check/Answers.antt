@@ -1,4 +1,4 @@
-use Rattle.std.proofs.Common.{Bool, cond, sym, ap, ◌∙◌}
+use Rattle.std.proofs.Common.{Bool, cond, sym, ap, ◌∙◌, arith}
 use Rattle.std.proofs.lemmas.List.{map-id}
 use Rattle.sharing.specs.Distinct.{distinct}
 use Rattle.sharing.proofs.Codes.{full_code}
@@ -8,10 +8,10 @@ pub returns-then-not-all_distinct : goal.returns-then-not-all_distinct
 returns-then-not-all_distinct c =
     let ranks = c.args.ranks.now in
     let found = c.if-not-all_distinct.ensures ∙ ap distinct (map-id ranks) in
-    ap (λ (b : Bool). cond b 0 18) found ∙ sym (full_code ranks c.if-ranks-ne512.false)
+    ap (λ (b : Bool). cond b 0 18) found ∙ sym (full_code ranks (omega arith))
 
 pub returns : goal.returns
 returns c =
     let ranks = c.args.ranks.now in
     let found = c.if-not-all_distinct.ensures ∙ ap distinct (map-id ranks) in
-    ap (λ (b : Bool). cond b 0 18) found ∙ sym (full_code ranks c.if-ranks-ne512.false)
+    ap (λ (b : Bool). cond b 0 18) found ∙ sym (full_code ranks (omega arith))
