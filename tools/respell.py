@@ -3,8 +3,9 @@
 
 usage: python3 tools/respell.py    once, at the top of the repository, right after port.py
 
-A name of the kit, a name that the prover makes for a goal, and all that Rust sees keep their spelling. It stops where two names of one
-file would fall together.
+A name of the kit, a name that the prover makes for a goal, and all that Rust sees keep their spelling. It tells of names that it brings
+together in one file, and then ends with status 1, the files rewritten all the same. A name that had an underscore already is not looked
+at: that one of these meets a respelt one, the check says.
 """
 
 import os
