@@ -3,3 +3,4 @@ pub mod Buyers
 pub mod Filed
 pub mod Promises
 pub mod Rows
+pub mod Totals

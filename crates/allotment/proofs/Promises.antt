@@ -1,6 +1,7 @@
 -- What is computed keeps the promise.
 use Rattle.std.proofs.Common.{◌≡◌, ℕ, ◌+◌, ◌-◌, ◌*◌, ◌<◌, ◌≤◌, List, ◌++◌, map, length, get_or, take, drop, replicate, Some, None, sum, Option, sym, refl, ap, ◌∙◌, subst, ⊎_elim, arith, MatchOption}
 use Rattle.std.proofs.lemmas.Bool.{cases_lt}
+use Rattle.std.proofs.lemmas.List.{drop-replicate, get_or-take, replicate-append-replicate}
 use Rattle.stages.specs.declared.particulars.Particulars.{Particulars}
 use Rattle.stages.specs.declared.terms.Buyer.{Buyer}
 use Rattle.stages.specs.Buyers as filed
@@ -89,7 +90,7 @@ module _
       ap (λ (k : ℕ). drop k rs) (sym (length_claims 0 bs))
       ∙ did.beyond
       ∙ ap (λ (k : ℕ). drop k (replicate wide no_row)) (length_claims 0 bs)
-      ∙ rows.drop_replicate (length bs) wide no_row
+      ∙ drop-replicate (length bs) wide no_row
       ∙ ap (λ (k : ℕ). replicate (k - length bs) no_row) asked.rows
 
   held : lots_in (take (length bs) rs) ≡ purchasers cs a.due
@@ -154,14 +155,14 @@ module _
       let front = none_front none ∙ rows.map_zero (lots_in (take (length bs) rs)) ∙ ap (λ (k : ℕ). replicate k 0) count in
       let counts = p.counts in
       let eight : length bs + (8 - length bs) ≡ 8 = omega (arith, ok.count) in
-      columns.0 ∙ ap (λ (l : List ℕ). l ++ replicate (8 - length bs) 0) front ∙ rows.zero_more (length bs) (8 - length bs) ∙ ap (λ (k : ℕ). replicate k 0) eight
+      columns.0 ∙ ap (λ (l : List ℕ). l ++ replicate (8 - length bs) 0) front ∙ replicate-append-replicate (length bs) (8 - length bs) 0 ∙ ap (λ (k : ℕ). replicate k 0) eight
 
   lots_near : (rank : ℕ → ℕ) → purchasers ≡ largest_remainder rank → (i : ℕ) → i < length bs → LessThanALotOff a.due p.demand (get_or bs i filed.nobody).lots (get_or rs i no_row).lots
   lots_near rank same i lt =
       let off = remainder_near rank cs (filed_admissible p bs ok) a.due in
       let in_cs : i < length cs = omega (arith, length_claims 0 bs) in
       let at : (get_or rs i no_row).lots ≡ get_or (largest_remainder rank cs a.due) i 0 =
-      ap (λ (b : BuyerRow). b.lots) (sym (rows.get_d_front (length bs) rs i no_row lt))
+      ap (λ (b : BuyerRow). b.lots) (sym (get_or-take (length bs) rs i no_row lt))
       ∙ sym (rows.get_or_in (take (length bs) rs) i)
       ∙ ap (λ (l : List ℕ). get_or l i 0) (held ∙ ap (λ (f : List Claim → ℕ → List ℕ). f cs a.due) same) in
       let all : shareable cs a.due ≡ a.due = omega (arith, demand, small.1) in
@@ -172,7 +173,7 @@ module _
 
   marks : (i : ℕ) → i < length bs → (get_or rs i no_row).billed ≡ billed_of p.kind
   marks i lt =
-      ap (λ (b : BuyerRow). b.billed) (sym (rows.get_d_front (length bs) rs i no_row lt) ∙ ap (λ (l : List BuyerRow). get_or l i no_row) front)
+      ap (λ (b : BuyerRow). b.billed) (sym (get_or-take (length bs) rs i no_row lt) ∙ ap (λ (l : List BuyerRow). get_or l i no_row) front)
       ∙ rows.marks_held a.receipts a.due (billed_of p.kind) 0 (purchasers cs a.due) i (omega (arith, fair.one_each, length_claims 0 bs))
 
   pub keeps : length fills ≡ 512 → Promise sellers purchasers p os bs a fills rs

@@ -1,3 +1,4 @@
 pub mod Rows
 pub mod Judgement
 pub mod Promise
+pub mod Sides

@@ -2,19 +2,22 @@
 ghost use Rattle.std.specs.Prelude.{◌≡◌, ◌≤◌, length};
 ghost use Rattle.allotment.specs.Rows.{claims_of};
 
+use super::pay::ROWS;
+use arrayvec::ArrayVec;
 use sharing::Claim;
 use stages::Buyer;
 
-// Writes each buyer as a claim, numbered from 0.
-pub(crate) fn write_claims(buyers: &[Buyer], claims: &mut [Claim])
-    requires long { length claims.old ≡ length buyers.now }
-    requires few { length buyers.now ≤ 8 }
-    ensures { claims.new ≡ claims_of buyers.now }
+// Answers the buyers as claims, numbered from 0.
+pub(crate) fn as_claims(buyers: &[Buyer]) -> ArrayVec<Claim, ROWS>
+    requires { length buyers.now ≤ 8 }
+    ensures { result.items ≡ claims_of buyers.now }
 {
-    for i in 0..buyers.len() {
-        claims[i] = Claim {
+    let mut claims = ArrayVec::new();
+    for (i, buyer) in buyers.iter().enumerate() {
+        claims.push(Claim {
             number: i as u16,
-            lots: buyers[i].lots,
-        };
+            lots: buyer.lots,
+        });
     }
+    claims
 }

@@ -6,7 +6,9 @@ mod fill;
 mod filling;
 mod pay;
 mod price;
+mod sides;
 mod tender;
 
 pub use pay::BuyerRow;
+pub use sides::Sides;
 pub use tender::{Allotted, allot, allot_standing, check_places};

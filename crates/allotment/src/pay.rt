@@ -1,17 +1,18 @@
 // What sellers receive, and what buyers pay.
-ghost use Rattle.std.specs.Prelude.{◌≡◌, ◌≤◌, length, take, drop, replicate, sum};
+ghost use Rattle.std.specs.Prelude.{◌≡◌, ◌*◌, ◌≤◌, length, take, drop, sum, slice_index};
 ghost use Rattle.book.specs.Model.{model_of};
 ghost use Rattle.book.specs.Offers.{capped};
-ghost use Rattle.allotment_theory.specs.Receipts.{paid_at, part as part_of, price_or_0, receipts_of};
-ghost use Rattle.allotment.specs.Rows.{billed_of, no_row, rows_of};
+ghost use Rattle.allotment_theory.specs.Receipts.{paid_at, part as part_of, receipts_of};
+ghost use Rattle.allotment.specs.Rows.{billed_of, rows_of};
 
-use super::fill::lots_at;
-use super::price::offer_at;
 use book::{Book, Offer};
-use stages::{Kind, Method};
+use stages::{Kind, Method, Particulars};
 
-// What a buyer gets and pays, and whether it is billed.
-#[derive(Clone, Copy)]
+// How many buyer rows there are.
+pub(crate) const ROWS: usize = 8;
+
+// What a buyer gets and pays, and whether it is billed. That of no buyer gets nothing.
+#[derive(Clone, Copy, PartialEq, Eq, Debug, Default)]
 pub struct BuyerRow {
     pub lots: u32,
     // in cents
@@ -19,24 +20,7 @@ pub struct BuyerRow {
     pub billed: bool,
 }
 
-// The row of no buyer.
-const NO_ROW: BuyerRow = BuyerRow {
-    lots: 0,
-    payment: 0,
-    billed: false,
-};
-
-// The price, 0 where there is none.
-pub(crate) fn or_zero(price: Option<u32>) -> u32
-    ensures { result ≡ price_or_0 price }
-{
-    match price {
-        Some(price) => price,
-        None => 0,
-    }
-}
-
-// The price that an offer is paid.
+// Answers the price that an offer is paid.
 fn price_paid(offer: Offer, method: Method, price: u32) -> u32
     ensures { result ≡ paid_at method price offer }
 {
@@ -46,36 +30,40 @@ fn price_paid(offer: Offer, method: Method, price: u32) -> u32
     }
 }
 
-// What the fills come to. 64 bits hold it of a sound book.
-pub(crate) fn receipts(book: &Book, fills: &[u32], unit: u16, method: Method, price: u32) -> u64
-    ensures { result ≡ capped (receipts_of unit (paid_at method price) (model_of book.now).list fills.now) }
+// Answers what an offer's fill comes to under the particulars, at the marginal price.
+fn worth(offer: Offer, fills: &[u32], particulars: Particulars, price: u32) -> u64
+    ensures { result ≡ capped (slice_index fills.now offer.number * particulars.unit * paid_at particulars.method price offer) }
 {
-    let mut all = 0u64;
-    for i in 0..book.len() {
-        let offer = offer_at(book, i);
-        let lots = lots_at(fills, usize::from(offer.number));
-        let each = price_paid(offer, method, price);
-        let worth = (lots as u64 * unit as u64).saturating_mul(each as u64);
-        all = all.saturating_add(worth);
-    }
-    all
+    let lots = fills.get(usize::from(offer.number)).copied().unwrap_or(0);
+    let each = price_paid(offer, particulars.method, price);
+    (u64::from(lots) * u64::from(particulars.unit)).saturating_mul(u64::from(each))
 }
 
-// The part of the receipts that falls to the first lots of those due, by quotient and remainder, so that 64 bits do.
+// Answers what the fills come to. 64 bits hold it of a sound book.
+pub(crate) fn receipts(book: &Book, fills: &[u32], particulars: Particulars, price: u32) -> u64
+    ensures { result ≡ capped (receipts_of particulars.unit (paid_at particulars.method price) (model_of book.now).list fills.now) }
+{
+    book.offers().iter().fold(
+        0,
+        |all: u64, offer| all.saturating_add(worth(*offer, fills, particulars, price)),
+    )
+}
+
+// Answers the part of the receipts that falls to the first lots of those due, by quotient and remainder, so that 64 bits do.
 fn part(receipts: u64, due: u32, lots: u32) -> u64
     ensures { result ≡ capped (part_of receipts due lots) }
 {
     if due == 0 {
         return 0;
     }
-    let due = due as u64;
-    let lots = lots as u64;
+    let due = u64::from(due);
+    let lots = u64::from(lots);
     (receipts / due)
         .saturating_mul(lots)
         .saturating_add(receipts % due * lots / due)
 }
 
-// Whether a buyer of a tender of the kind is billed with the allotment.
+// Answers whether a buyer of a tender of the kind is billed with the allotment.
 pub(crate) fn is_billed(kind: Kind) -> bool
     ensures { result ≡ billed_of kind }
 {
@@ -85,14 +73,7 @@ pub(crate) fn is_billed(kind: Kind) -> bool
     }
 }
 
-// Makes each row that of no buyer.
-pub(crate) fn clear_rows(rows: &mut [BuyerRow])
-    ensures { rows.new ≡ replicate (length rows.old) no_row }
-{
-    rows.fill(NO_ROW);
-}
-
-// Writes the row of each buyer.
+// Writes the row of each buyer. By index: after a zip of `iter_mut` a proof knows nothing of the rows.
 pub(crate) fn write_rows(receipts: u64, due: u32, billed: bool, lots: &[u32], rows: &mut [BuyerRow])
     requires { length lots.now ≤ length rows.old }
     ensures front { sum lots.now ≤ due → take (length lots.now) rows.new ≡ rows_of receipts due billed lots.now }
@@ -100,11 +81,11 @@ pub(crate) fn write_rows(receipts: u64, due: u32, billed: bool, lots: &[u32], ro
 {
     let mut before: u32 = 0;
     let mut paid: u64 = 0;
-    for i in 0..lots.len() {
-        before = before.saturating_add(lots[i]);
+    for (i, share) in lots.iter().enumerate() {
+        before = before.saturating_add(*share);
         let next = part(receipts, due, before);
         rows[i] = BuyerRow {
-            lots: lots[i],
+            lots: *share,
             payment: next.saturating_sub(paid),
             billed,
         };

@@ -1,6 +1,5 @@
 // The allotment of a closed tender.
 ghost use Rattle.std.specs.Prelude.{◌≡◌, ◌≤◌, true, length, IfOk, IfErr};
-ghost use Rattle.sharing.specs.Kept.{Kept};
 ghost use Rattle.stages.specs.Buyers.{as_filed};
 ghost use Rattle.stages.specs.Register.{code_of, step_code_of};
 ghost use Rattle.book.specs.Model.{model_of, space};
@@ -8,23 +7,20 @@ ghost use Rattle.book.specs.Soundness.{Sound};
 ghost use Rattle.allotment.specs.Judgement.{allot_code};
 ghost use Rattle.allotment.specs.Promise.{Asked, Computed, Promise};
 ghost use Rattle.allotment.specs.Rows.{claims_of};
+ghost use Rattle.allotment.specs.Sides.{BothKept};
 
-use super::buyer_claims::write_claims;
+use super::buyer_claims::as_claims;
+use super::fill::FILLS;
 use super::filling::fill_offers;
-use super::pay::{BuyerRow, clear_rows, is_billed, or_zero, receipts, write_rows};
+use super::pay::{BuyerRow, ROWS, is_billed, receipts, write_rows};
 use super::price::due;
+use super::sides::Sides;
 use book::Book;
-use sharing::{Claim, SharingRule};
+use sharing::SharingRule;
 use stages::{Buyer, Closed, Particulars, Refusal};
 
-// How many fills there are, and how many standing offers at most.
-const FILLS: usize = 512;
-
-// How many buyer rows there are.
-const ROWS: usize = 8;
-
 // What an allotment answers beside the fills and the rows.
-#[derive(Clone, Copy)]
+#[derive(Clone, Copy, PartialEq, Eq, Debug, Default)]
 pub struct Allotted {
     // in lots
     pub due: u32,
@@ -55,35 +51,32 @@ pub fn check_places(
     Ok(())
 }
 
-// The work of `allot`, over places for the buyers as claims and for their lots.
-fn allot_into<S: SharingRule, B: SharingRule>(
+// Computes the allotment of the standing offers.
+fn compute<S: SharingRule, B: SharingRule>(
     particulars: Particulars,
     book: &Book,
-    buyers: &[Claim],
-    lots: &mut [u32],
+    buyers: &[Buyer],
     fills: &mut [u32],
     rows: &mut [BuyerRow],
-    sellers: &mut S,
-    shared_among: &mut B,
+    rules: Sides<&mut S, &mut B>,
 ) -> Allotted
     requires few { length (model_of book.now).list ≤ 512 }
-    requires room { length lots.old ≡ length buyers.now }
+    requires short { length buyers.now ≤ 8 }
     requires long { length buyers.now ≤ length rows.old }
-    ensures sellers { Kept S.SharingRule.sound S.SharingRule.shares_of sellers.old sellers.new }
-    ensures buyers { Kept B.SharingRule.sound B.SharingRule.shares_of shared_among.old shared_among.new }
-    ensures computed { S.SharingRule.sound sellers.old → B.SharingRule.sound shared_among.old → Computed (S.SharingRule.shares_of sellers.old) (B.SharingRule.shares_of shared_among.old) particulars (model_of book.now).list buyers.now (length fills.old) (length rows.old) result fills.new rows.new }
+    ensures kept { BothKept S.SharingRule.sound S.SharingRule.shares_of B.SharingRule.sound B.SharingRule.shares_of rules.entry.sellers.now rules.exit.0.now rules.entry.buyers.now rules.exit.1.0.now }
+    ensures computed { S.SharingRule.sound rules.entry.sellers.now → B.SharingRule.sound rules.entry.buyers.now → Computed (S.SharingRule.shares_of rules.entry.sellers.now) (B.SharingRule.shares_of rules.entry.buyers.now) particulars (model_of book.now).list (claims_of buyers.now) (length fills.old) (length rows.old) result fills.new rows.new }
 {
+    let Sides {
+        sellers,
+        buyers: shared_among,
+    } = rules;
     let due = due(book, particulars);
-    let _ = shared_among.share(buyers, due, lots);
+    let mut lots = [0; ROWS];
+    let lots = &mut lots[..buyers.len()];
+    let _ = shared_among.share(&as_claims(buyers), due, lots);
     let price = fill_offers(sellers, book, due, fills);
-    let receipts = receipts(
-        book,
-        fills,
-        particulars.unit,
-        particulars.method,
-        or_zero(price),
-    );
-    clear_rows(rows);
+    let receipts = receipts(book, fills, particulars, price.unwrap_or(0));
+    rows.fill(BuyerRow::default());
     write_rows(receipts, due, is_billed(particulars.kind), lots, rows);
     Allotted {
         due,
@@ -91,39 +84,6 @@ fn allot_into<S: SharingRule, B: SharingRule>(
         receipts,
         fee: receipts / 2_000,
     }
-}
-
-// The work of `allot`, over a place for the buyers as claims.
-fn allot_claims<S: SharingRule, B: SharingRule>(
-    particulars: Particulars,
-    book: &Book,
-    buyers: &[Buyer],
-    claims: &mut [Claim],
-    fills: &mut [u32],
-    rows: &mut [BuyerRow],
-    sellers: &mut S,
-    shared_among: &mut B,
-) -> Allotted
-    requires few { length (model_of book.now).list ≤ 512 }
-    requires room { length claims.old ≡ length buyers.now }
-    requires short { length buyers.now ≤ 8 }
-    requires long { length buyers.now ≤ length rows.old }
-    ensures sellers { Kept S.SharingRule.sound S.SharingRule.shares_of sellers.old sellers.new }
-    ensures buyers { Kept B.SharingRule.sound B.SharingRule.shares_of shared_among.old shared_among.new }
-    ensures computed { S.SharingRule.sound sellers.old → B.SharingRule.sound shared_among.old → Computed (S.SharingRule.shares_of sellers.old) (B.SharingRule.shares_of shared_among.old) particulars (model_of book.now).list (claims_of buyers.now) (length fills.old) (length rows.old) result fills.new rows.new }
-{
-    write_claims(buyers, claims);
-    let mut lots = [0; ROWS];
-    allot_into(
-        particulars,
-        book,
-        claims,
-        &mut lots[0..buyers.len()],
-        fills,
-        rows,
-        sellers,
-        shared_among,
-    )
 }
 
 // Allots of the standing offers to the buyers, once places and buyers were asked about. On places or buyers that `allot`
@@ -134,50 +94,32 @@ pub fn allot_standing<S: SharingRule, B: SharingRule>(
     buyers: &[Buyer],
     fills: &mut [u32],
     rows: &mut [BuyerRow],
-    sellers: &mut S,
-    shared_among: &mut B,
+    rules: Sides<&mut S, &mut B>,
 ) -> Allotted
-    ensures sellers { Kept S.SharingRule.sound S.SharingRule.shares_of sellers.old sellers.new }
-    ensures buyers { Kept B.SharingRule.sound B.SharingRule.shares_of shared_among.old shared_among.new }
-    ensures promise { Asked particulars (length fills.old) (length rows.old) buyers.now → Sound (model_of book.now) → S.SharingRule.sound sellers.old → B.SharingRule.sound shared_among.old → Promise (S.SharingRule.shares_of sellers.old) (B.SharingRule.shares_of shared_among.old) particulars (model_of book.now).list buyers.now result fills.new rows.new }
+    ensures kept { BothKept S.SharingRule.sound S.SharingRule.shares_of B.SharingRule.sound B.SharingRule.shares_of rules.entry.sellers.now rules.exit.0.now rules.entry.buyers.now rules.exit.1.0.now }
+    ensures promise { Asked particulars (length fills.old) (length rows.old) buyers.now → Sound (model_of book.now) → S.SharingRule.sound rules.entry.sellers.now → B.SharingRule.sound rules.entry.buyers.now → Promise (S.SharingRule.shares_of rules.entry.sellers.now) (B.SharingRule.shares_of rules.entry.buyers.now) particulars (model_of book.now).list buyers.now result fills.new rows.new }
 {
     if book.len() > FILLS || buyers.len() > ROWS || buyers.len() > rows.len() {
-        return Allotted {
-            due: 0,
-            price: None,
-            receipts: 0,
-            fee: 0,
-        };
+        return Allotted::default();
     }
-    let mut claims = [Claim { number: 0, lots: 0 }; ROWS];
-    allot_claims(
-        particulars,
-        book,
-        buyers,
-        &mut claims[0..buyers.len()],
-        fills,
-        rows,
-        sellers,
-        shared_among,
-    )
+    compute(particulars, book, buyers, fills, rows, rules)
 }
 
 // Allots of the book to the buyers, and uses up the tender: fills by offer number, and a row for each buyer. A refusal leaves
-// fills and rows as they were, and hands the tender back.
+// fills and rows as they were, and hands the tender back. Fills and rows stay two parameters: over a struct of two loans each
+// contract would also say that both are still the same loans.
 pub fn allot<S: SharingRule, B: SharingRule>(
     tender: Closed,
     book: &Book,
     buyers: &[Buyer],
     fills: &mut [u32],
     rows: &mut [BuyerRow],
-    sellers: &mut S,
-    shared_among: &mut B,
+    rules: Sides<&mut S, &mut B>,
 ) -> Result<Allotted, (Refusal, Closed)>
     ensures code { step_code_of result ≡ allot_code tender.particulars (space book.now) (length fills.old) (length rows.old) buyers.now }
     ensures unchanged { IfErr result (λ e. (e.1 ≡ tender) × (fills.new ≡ fills.old) × (rows.new ≡ rows.old)) }
-    ensures sellers { Kept S.SharingRule.sound S.SharingRule.shares_of sellers.old sellers.new }
-    ensures buyers { Kept B.SharingRule.sound B.SharingRule.shares_of shared_among.old shared_among.new }
-    ensures promise { IfOk result (λ a. Sound (model_of book.now) → S.SharingRule.sound sellers.old → B.SharingRule.sound shared_among.old → Promise (S.SharingRule.shares_of sellers.old) (B.SharingRule.shares_of shared_among.old) tender.particulars (model_of book.now).list buyers.now a fills.new rows.new) }
+    ensures kept { BothKept S.SharingRule.sound S.SharingRule.shares_of B.SharingRule.sound B.SharingRule.shares_of rules.entry.sellers.now rules.exit.0.now rules.entry.buyers.now rules.exit.1.0.now }
+    ensures promise { IfOk result (λ a. Sound (model_of book.now) → S.SharingRule.sound rules.entry.sellers.now → B.SharingRule.sound rules.entry.buyers.now → Promise (S.SharingRule.shares_of rules.entry.sellers.now) (B.SharingRule.shares_of rules.entry.buyers.now) tender.particulars (model_of book.now).list buyers.now a fills.new rows.new) }
 {
     let particulars = tender.particulars();
     match check_places(
@@ -188,14 +130,6 @@ pub fn allot<S: SharingRule, B: SharingRule>(
         rows.len(),
     ) {
         Err(refusal) => Err((refusal, tender)),
-        Ok(()) => Ok(allot_standing(
-            particulars,
-            book,
-            buyers,
-            fills,
-            rows,
-            sellers,
-            shared_among,
-        )),
+        Ok(()) => Ok(allot_standing(particulars, book, buyers, fills, rows, rules)),
     }
 }

@@ -125,7 +125,8 @@ put_in m o xs count time k at new one ord r ts ks is = record {
   times = all_behind cheaper (λ y. (1 ≤ new y.number) × (new y.number < suc k)) o xs (omega arith, omega arith) (kept_timed k at new xs ks ts);
 }
 
-passed : (n : ℕ) (b : Bool) (x : ℕ) → (n ≡ 0 → ⊥) → cond b n x ≡ 0 → (b ≡ false) × (x ≡ 0)
+-- a judgement that refuses nothing passed its first test
+pub passed : (n : ℕ) (b : Bool) (x : ℕ) → (n ≡ 0 → ⊥) → cond b n x ≡ 0 → (b ≡ false) × (x ≡ 0)
 passed n true x ne z = absurd (ne z)
 passed n false x ne z = (refl, z)
 
@@ -276,7 +277,7 @@ module _ (t : Open) (bs : List Buyer) where
     by_priority n (o ∷ os) ts r = (all_before n o ts.0.0 os ts.1 r.0, by_priority n os ts.1 r.1)
 
 -- the model at first is sound
-fresh_sound : Sound fresh
+pub fresh_sound : Sound fresh
 fresh_sound = record { ordered = tt; apart = tt; numbered = tt; few = omega arith; accepted = omega arith; prices = tt; lots = tt }
 
 pub in_priority : InPriority

@@ -4,7 +4,6 @@ pub mod Near
 pub mod Pass
 pub mod Pinned
 pub mod Scatter
-pub mod Steps
 pub mod Telescope
 pub mod Ties
 pub mod Total

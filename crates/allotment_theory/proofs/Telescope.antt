@@ -84,7 +84,3 @@ none_paid r before (l ∷ ls) =
 pub payments_any : (r due : ℕ) (ls : List ℕ) → payments_of r due ls ≡ payments r due 0 ls
 payments_any r zero ls = sym (none_paid r 0 ls)
 payments_any r (suc n) ls = payments_due r (suc n) ls (omega arith)
-
--- before the first lot nothing has fallen to anyone
-pub part_none : (r due : ℕ) → part r due 0 ≡ 0
-part_none r due = omega (arith, part_le r due 0 (omega arith), mul-div-le (r * 0) due)

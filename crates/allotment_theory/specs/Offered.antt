@@ -8,10 +8,6 @@ use Rattle.book.specs.declared.offer.Offer.{Offer}
 use Rattle.book.specs.Offers.{cheaper}
 use Rattle.book.specs.Soundness.{Apart}
 
--- what stands past the end of a list of offers
-abbrev pub nothing : Offer
-nothing = record { number = 0; member = 0 ∷ 0 ∷ 0 ∷ 0 ∷ []; account = 0; price = 0; lots = 0 }
-
 -- the lots that are offered up to a price
 abbrev pub up_to : ℕ → List Offer → ℕ
 up_to q os = sum_by (λ o. cond (nat_le o.price q) o.lots 0) os

@@ -1,5 +1,6 @@
 -- What the sellers receive together, and what each buyer pays of it.
-use Rattle.std.specs.Prelude.{ℕ, ◌+◌, ◌-◌, ◌*◌, ◌/◌, ◌<◌, cond, List, [], ◌∷◌, map, Some, None, sum_by, Option, ◌==◌, slice_index}
+use Rattle.std.specs.Prelude.{ℕ, ◌+◌, ◌-◌, ◌*◌, ◌/◌, ◌<◌, cond, List, [], ◌∷◌, map, sum_by, Option, ◌==◌, slice_index}
+use Rattle.std.specs.Option.{unwrap_or}
 use Rattle.stages.specs.declared.method.Method.{Method}
 use Rattle.stages.specs.declared.method.Method.TheVariants.{OnePrice, AsOffered}
 use Rattle.book.specs.declared.offer.Offer.{Offer}
@@ -41,5 +42,4 @@ receipts_of unit price os row = sum_by (λ o. slice_index row o.number * unit * 
 
 -- the price, 0 where there is none
 abbrev pub price_or_0 : Option ℕ → ℕ
-price_or_0 None = 0
-price_or_0 (Some p) = p
+price_or_0 p = unwrap_or p 0

@@ -4,3 +4,4 @@ pub mod Firsts
 pub mod Keeping
 pub mod Listing
 pub mod Searching
+pub mod Totals

@@ -1,20 +1,14 @@
 -- What the answers of the ordered list tell.
-use Rattle.std.proofs.Common.{◌≡◌, ℕ, zero, suc, ◌<◌, ◌≤◌, true, List, [], ◌∷◌, length, get_or, is_ok, Some, None, Ok, Err, Result, arith, MatchResult}
+use Rattle.std.proofs.Common.{◌≡◌, ℕ, zero, suc, ◌<◌, ◌≤◌, List, [], ◌∷◌, length, get_or, Some, None, arith}
 use Rattle.std.specs.List.{slice_get}
 use Rattle.std.proofs.lemmas.List.{length-take}
 use Rattle.std.proofs.lemmas.Option.{slice_get-get_or}
-use Rattle.std.proofs.lemmas.Bool.{false≢true}
 use Rattle.ordered.specs.declared.list.OrderedList.{OrderedList}
 use Rattle.ordered.specs.Listed.{listed, capacity}
 
 -- no more are listed than there are records
 pub listed_within : {X : Type 0} (l : OrderedList X) → length (listed l) ≤ capacity l
 listed_within l = let e = length-take l.len l.items.now in omega arith
-
--- what holds of an insertion that succeeds
-pub at_ok : {T E : Type 0} (P : Type 0) (Q : E → Type 0) (r : Result T E) → is_ok r ≡ true → MatchResult r (λ _. P) Q → P
-at_ok P Q (Ok x) e h = h
-at_ok P Q (Err x) e h = absurd (false≢true e)
 
 -- there is a record at each index within the list
 pub nth_within : {X : Type 0} (xs : List X) (i : ℕ) → i < length xs → None ≡ slice_get xs i → ⊥

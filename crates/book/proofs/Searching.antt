@@ -1,53 +1,29 @@
--- The steps of a search through the offers for the first that passes a test.
-use Rattle.std.proofs.Common.{◌≡◌, ℕ, ◌+◌, ◌<◌, ◌≤◌, Bool, true, false, cond, eqb, List, [], ◌∷◌, ◌++◌, length, take, drop, Some, None, sym, refl, ap, ◌∙◌, ⊎_elim, append_assoc, add-one, arith}
-use Rattle.std.specs.List.{slice_get, remove}
-use Rattle.std.proofs.lemmas.List.{drop_more, take_more, drop_all}
-use Rattle.std.proofs.lemmas.Bool.{cases_Bool, cond-true, cond-false, eq-eqb}
+-- The first offer that passes a test, by its index.
+use Rattle.std.proofs.Common.{◌≡◌, ℕ, suc, ◌+◌, ◌<◌, Bool, true, false, cond, not, eqb, ltb, List, [], ◌∷◌, length, get_or, Some, None, Option, sym, refl, ap, ◌∙◌, subst, ⊎_elim, arith, Bor, MatchOption}
+use Rattle.std.specs.List.{AllByRecursion, ContainsAt as Has, position, position_or_len, remove}
+use Rattle.std.specs.Option.{option_map}
+use Rattle.std.proofs.lemmas.Bool.{cases_Bool, cond-true, cond-false, cond_both, eq-eqb, ltb-true, ltb-false}
+use Rattle.std.proofs.lemmas.List.Folds.{find_at}
+use Rattle.std.proofs.lemmas.Option.{slice_get-get_or, slice_get_past}
 use Rattle.book.specs.declared.offer.Offer.{Offer}
-use Rattle.book.specs.Model.{has_number, standing}
+use Rattle.book.specs.Model.{has_number, standing, without}
 use Rattle.book.specs.Offers.{first_that, without_first}
-use Rattle.book.proofs.Listing.{read_at}
+use Rattle.book.proofs.Firsts.{none_passes, one_passes}
 
--- the first that passes is among those from i on, and so is what is left out without it
-pub record Ahead (test : Offer → Bool) (xs : List Offer) (i : ℕ) : Type 0 where
-  pub finds : first_that test (drop i xs) ≡ first_that test xs
-  pub leaves : take i xs ++ without_first test (drop i xs) ≡ without_first test xs
+module _ (test : Offer → Bool) where
+  removed : (x : Offer) (xs : List Offer) (i : ℕ) (b : Bool) → remove xs i ≡ without_first test xs → remove (x ∷ xs) (cond (not b) (1 + i) 0) ≡ cond b xs (x ∷ without_first test xs)
+  removed x xs i true e = refl
+  removed x xs i false e = let next : 1 + i ≡ suc i = omega arith in ap (remove (x ∷ xs)) next ∙ ap (λ (zs : List Offer). x ∷ zs) e
 
-pub ahead_none : (test : Offer → Bool) (xs : List Offer) → Ahead test xs 0
-ahead_none test xs = record { finds = refl; leaves = refl }
+  -- the offers without the one at the index of the first that passes
+  pub remove_first : (xs : List Offer) → remove xs (position_or_len test xs) ≡ without_first test xs
+  remove_first [] = refl
+  remove_first (x ∷ xs) = removed x xs (position_or_len test xs) (test x) (remove_first xs)
 
-module _ (test : Offer → Bool) (xs : List Offer) (i : ℕ) (o : Offer) (lt : i < length xs) (got : Some o ≡ slice_get xs i) where
-  split : drop i xs ≡ o ∷ drop (i + 1) xs
-  split = drop_more xs i o lt ∙ ap (λ z. z ∷ drop (i + 1) xs) (read_at xs i o lt got)
-
-  front : take (i + 1) xs ≡ take i xs ++ o ∷ []
-  front = take_more xs i o lt ∙ ap (λ z. take i xs ++ z ∷ []) (read_at xs i o lt got)
-
-  firsts : (b : Bool) → test o ≡ b → first_that test (drop i xs) ≡ cond b (Some o) (first_that test (drop (i + 1) xs))
-  firsts b t = ap (first_that test) split ∙ ap (λ z. cond z (Some o) (first_that test (drop (i + 1) xs))) t
-
-  withouts : (b : Bool) → test o ≡ b → without_first test (drop i xs) ≡ cond b (drop (i + 1) xs) (o ∷ without_first test (drop (i + 1) xs))
-  withouts b t = ap (without_first test) split ∙ ap (λ z. cond z (drop (i + 1) xs) (o ∷ without_first test (drop (i + 1) xs))) t
-
-  -- the offer at i passes
-  pub found_here : test o ≡ true → Ahead test xs i → (first_that test xs ≡ Some o) × (remove xs i ≡ without_first test xs)
-  found_here t a =
-      (sym a.finds ∙ firsts true t, ap (λ k. take i xs ++ drop k xs) (sym (add-one i)) ∙ ap (λ z. take i xs ++ z) (sym (withouts true t)) ∙ a.leaves)
-
-  -- the offer at i does not pass
-  pub ahead_more : test o ≡ false → Ahead test xs i → Ahead test xs (i + 1)
-  ahead_more t a = record {
-    finds = sym (firsts false t) ∙ a.finds;
-    leaves =
-        ap (λ z. z ++ without_first test (drop (i + 1) xs)) front
-        ∙ append_assoc (take i xs) (o ∷ []) (without_first test (drop (i + 1) xs))
-        ∙ ap (λ z. take i xs ++ z) (sym (withouts false t))
-        ∙ a.leaves;
-  }
-
--- no offer is left
-pub ahead_all : (test : Offer → Bool) (xs : List Offer) (i : ℕ) → length xs ≤ i → Ahead test xs i → first_that test xs ≡ None
-ahead_all test xs i le a = sym a.finds ∙ ap (first_that test) (drop_all i xs le)
+  -- the offer that a search answers is in the list and passes, or else none does
+  pub found : (xs : List Offer) (r : Option (Bor Offer)) → option_map (λ (o : Bor Offer). o.now) r ≡ first_that test xs → MatchOption r (AllByRecursion (λ o. test o ≡ false) xs) (λ o. Has xs o.now × (test o.now ≡ true))
+  found xs None e = none_passes test xs (sym e)
+  found xs (Some o) e = one_passes test xs o.now (sym e)
 
 -- on 512 records the standing offer with a number is the first that has it
 pub stands_on_512 : (n : ℕ) (xs : List Offer) (number : ℕ) → n ≡ 512 → standing n xs number ≡ first_that (has_number number) xs
@@ -60,3 +36,15 @@ stands_first n xs number o e =
     (λ t. sym (cond-true (eqb n 512) (first_that (has_number number) xs) None t) ∙ e)
     (λ f. let none = cond-false (eqb n 512) (first_that (has_number number) xs) None f in let z : ◌≡◌ {A = ℕ} 0 1 = cc in absurd (omega arith))
     (cases_Bool (eqb n 512))
+
+-- what the index of the first offer with a number tells of the one that stands
+pub stands_at : (n : ℕ) (xs : List Offer) (number : ℕ) (d : Offer) (r : Option ℕ) → n ≡ 512 → r ≡ position (has_number number) xs → MatchOption r (standing n xs number ≡ None) (λ at. (standing n xs number ≡ Some (get_or xs at d)) × (at < length xs) × (remove xs at ≡ without number xs))
+stands_at n xs number d r e p =
+    let test = has_number number in
+    let at = position_or_len test xs in
+    let first = stands_on_512 n xs number e ∙ find_at test xs in
+    let Says : Option ℕ → Type 0 = λ r. MatchOption r (standing n xs number ≡ None) (λ i. (standing n xs number ≡ Some (get_or xs i d)) × (i < length xs) × (remove xs i ≡ without number xs)) in
+    subst Says (sym p)
+    (cond_both (ltb at (length xs)) (Some at) None Says
+    (λ t. let lt = ltb-true at (length xs) t in (first ∙ slice_get-get_or xs at d lt, lt, remove_first test xs))
+    (λ f. first ∙ slice_get_past xs at (ltb-false at (length xs) f)))

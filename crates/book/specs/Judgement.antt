@@ -41,6 +41,18 @@ abbrev pub owned : Option Offer → List ℕ → Bool
 owned None member = false
 owned (Some o) member = of_member o member
 
+-- The judgement of a call's time.
+abbrev pub time_code : Open → Model → ℕ → ℕ
+time_code t m time = first_of ((5, outside_window t time) ∷ (6, before_latest m time) ∷ [])
+
+-- The judgement of a call's price and lots.
+abbrev pub size_code : Open → ℕ → ℕ → ℕ
+size_code t price lots = first_of ((7, bad_price t price) ∷ (8, bad_lots lots) ∷ [])
+
+-- The judgement of the offer that a member names. 11: no such offer stands. 12: it is another member's.
+abbrev pub owner_code : Option Offer → List ℕ → ℕ
+owner_code found member = first_of ((11, not (is_some found)) ∷ (12, not (owned found member)) ∷ [])
+
 -- The judgement of an entry, for a tender, a book on n records and its model. 9: the account is that of a buyer handed over.
 -- 14: there are not 512 records. 15: the buyers handed over are not those filed.
 abbrev pub entry_code : Open → ℕ → Model → Entry → List Buyer → ℕ

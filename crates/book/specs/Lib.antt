@@ -4,3 +4,4 @@ pub mod Judgement
 pub mod Told
 pub mod Soundness
 pub mod Finding
+pub mod Kept

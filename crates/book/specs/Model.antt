@@ -1,5 +1,5 @@
 -- The plain model of a book: a list, a count and a time.
-use Rattle.std.specs.Prelude.{ℕ, Bool, cond, List, [], None, Option, ◌==◌}
+use Rattle.std.specs.Prelude.{◌≡◌, ℕ, ◌<◌, Bool, cond, List, [], length, Some, None, Option, ◌==◌, remove}
 use Rattle.ordered.specs.Listed.{listed, capacity}
 use Rattle.book.specs.declared.book.Book.{Book}
 use Rattle.book.specs.declared.offer.Offer.{Offer}
@@ -34,3 +34,7 @@ standing n os number = cond (n == 512) (first_that (has_number number) os) None
 -- the offers without the one with the number
 abbrev pub without : ℕ → List Offer → List Offer
 without number os = without_first (has_number number) os
+
+-- The offer that stands with a number stands at the index: taken out there, it leaves the offers without it.
+abbrev pub StandsAt : ℕ → List Offer → ℕ → ℕ × Offer → Type 0
+StandsAt n os number p = (standing n os number ≡ Some p.1) × (p.0 < length os) × (remove os p.0 ≡ without number os)

@@ -1,5 +1,5 @@
 -- Offers, and lists of them.
-use Rattle.std.specs.Prelude.{ℕ, min, Bool, cond, List, [], ◌∷◌, Some, None, sum_by, Option, nat_le}
+use Rattle.std.specs.Prelude.{ℕ, min, Bool, cond, List, [], ◌∷◌, find, sum_by, Option, nat_le}
 use Rattle.std.specs.Str.{bytes_eq}
 use Rattle.book.specs.declared.offer.Offer.{Offer}
 
@@ -13,8 +13,7 @@ of_member o member = bytes_eq o.member member
 
 -- the first offer that passes the test
 abbrev pub first_that : (Offer → Bool) → List Offer → Option Offer
-first_that test [] = None
-first_that test (o ∷ os) = cond (test o) (Some o) (first_that test os)
+first_that test os = find test os
 
 -- the list without the first offer that passes the test
 abbrev pub without_first : (Offer → Bool) → List Offer → List Offer

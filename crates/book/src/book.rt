@@ -16,6 +16,7 @@ use stages::Refusal;
 pub(crate) const PLACES: usize = 512;
 
 // The standing offers, how many entries were accepted, and the time of the latest accepted call.
+// The book keeps no invariant, since it stands over records that are lent: what holds of its offers is `Sound`, a premise of its promises.
 #[derive(Drop)]
 pub struct Book<'a> {
     pub(crate) list: OrderedList<'a, Offer>,
@@ -56,11 +57,18 @@ impl<'a> Book<'a> {
         self.list.len()
     }
 
+    // Answers the standing offers, the cheapest first.
+    pub fn offers(&self) -> &[Offer]
+        ensures { result.now ≡ (model_of self.now).list }
+    {
+        self.list.as_slice()
+    }
+
     // Answers the offer at the index, the cheapest first.
     pub fn offer(&self, i: usize) -> Option<Offer>
         ensures { result ≡ slice_get (model_of self.now).list i }
     {
-        self.list.get(i)
+        self.offers().get(i).copied()
     }
 
     // Answers how many entries were accepted.
@@ -88,12 +96,9 @@ impl<'a> Book<'a> {
     pub fn supply(&self) -> u64
         ensures { result ≡ capped (supplied (model_of self.now).list) }
     {
-        let mut all = 0u64;
-        for i in 0..self.len() {
-            if let Some(offer) = self.offer(i) {
-                all = all.saturating_add(offer.lots as u64);
-            }
-        }
-        all
+        self.offers().iter().fold(
+            0,
+            |all: u64, offer| all.saturating_add(u64::from(offer.lots)),
+        )
     }
 }

@@ -1,16 +1,16 @@
 // Changes.
-ghost use Rattle.std.specs.Prelude.{◌≡◌, OnErr};
+ghost use Rattle.std.specs.Prelude.{◌≡◌};
 ghost use Rattle.stages.specs.Register.{code_of};
 ghost use Rattle.book.specs.Judgement.{change_code};
+ghost use Rattle.book.specs.Kept.{Kept};
 ghost use Rattle.book.specs.Model.{model_of, space};
-ghost use Rattle.book.specs.Soundness.{Sound};
 ghost use Rattle.book.specs.Told.{changed};
 
 use super::book::Book;
 use stages::{Open, Refusal};
 
 // What a member changes of an offer of its own.
-#[derive(Clone, Copy)]
+#[derive(Clone, Copy, PartialEq, Eq, Debug)]
 pub struct Change {
     // in seconds since midnight
     pub time: u32,
@@ -26,10 +26,7 @@ impl<'a> Book<'a> {
     pub fn change(&mut self, tender: &Open, change: Change) -> Result<(), Refusal>
         ensures code { code_of result ≡ change_code tender.now (space self.old) (model_of self.old) change }
         ensures state { model_of self.new ≡ changed tender.now (space self.old) (model_of self.old) change }
-        ensures unchanged { OnErr result (self.new ≡ self.old) }
-        ensures sound { Sound (model_of self.old) → Sound (model_of self.new) }
-        ensures space { space self.new ≡ space self.old }
-        ensures named { self.new.list.items.ghost_name ≡ self.old.list.items.ghost_name }
+        ensures kept { Kept self.old self.new result }
     {
         let (at, mut offer) = self.judge_change(tender, change)?;
         offer.price = change.price;

@@ -1,7 +1,8 @@
 // Entries.
-ghost use Rattle.std.specs.Prelude.{◌≡◌, IfOk, OnErr};
+ghost use Rattle.std.specs.Prelude.{◌≡◌, IfOk};
 ghost use Rattle.stages.specs.Register.{code_of};
 ghost use Rattle.book.specs.Judgement.{entry_code};
+ghost use Rattle.book.specs.Kept.{Kept};
 ghost use Rattle.book.specs.Model.{model_of, space};
 ghost use Rattle.book.specs.Soundness.{Sound};
 ghost use Rattle.book.specs.Told.{entered};
@@ -11,7 +12,7 @@ use super::offer::Offer;
 use stages::{Buyer, Open, Refusal};
 
 // What a member enters.
-#[derive(Clone, Copy)]
+#[derive(Clone, Copy, PartialEq, Eq, Debug)]
 pub struct Entry {
     // in seconds since midnight
     pub time: u32,
@@ -27,10 +28,7 @@ impl<'a> Book<'a> {
         ensures code { code_of result ≡ entry_code tender.now (space self.old) (model_of self.old) entry buyers.now }
         ensures number { IfOk result (λ n. n ≡ (model_of self.old).count) }
         ensures state { Sound (model_of self.old) → model_of self.new ≡ entered tender.now (space self.old) (model_of self.old) entry buyers.now }
-        ensures unchanged { OnErr result (self.new ≡ self.old) }
-        ensures sound { Sound (model_of self.old) → Sound (model_of self.new) }
-        ensures space { space self.new ≡ space self.old }
-        ensures named { self.new.list.items.ghost_name ≡ self.old.list.items.ghost_name }
+        ensures kept { Kept self.old self.new result }
     {
         self.judge_entry(tender, entry, buyers)?;
         let Entry {

@@ -5,6 +5,7 @@ pub mod book;
 pub mod call;
 pub mod cancel;
 pub mod change;
+pub(crate) mod checks;
 pub mod entry;
 pub mod finding;
 pub(crate) mod judge;

@@ -5,7 +5,7 @@ ghost use Rattle.std.proofs.Common.{rules};
 
 use ordered::Order;
 
-#[derive(Clone, Copy)]
+#[derive(Clone, Copy, PartialEq, Eq, Debug, Default)]
 pub struct Offer {
     // the number given at entry
     pub number: u16,

@@ -33,14 +33,6 @@ const CHANGE: Change = Change {
     lots: 6,
 };
 
-const UNUSED: Offer = Offer {
-    number: 0,
-    member: [0; 4],
-    account: 0,
-    price: 0,
-    lots: 0,
-};
-
 // Answers the number of an answer, 0 where the call is accepted.
 fn code<T: Drop>(answer: Result<T, Refusal>) -> u8 {
     match answer {
@@ -52,27 +44,19 @@ fn code<T: Drop>(answer: Result<T, Refusal>) -> u8 {
 // Opens book A's tender.
 fn opened() -> Result<Open, Refusal> {
     let filed = file(&TERMS, &[BUYER])?;
-    match filed.open(4_200) {
-        Ok(tender) => Ok(tender),
-        Err(refused) => Err(refused.0),
-    }
+    filed.open(4_200).map_err(|refused| refused.0)
 }
 
 // Answers the number of opening book A's tender at the base price.
 fn open_code(base: u32) -> Result<u8, Refusal> {
     let filed = file(&TERMS, &[BUYER])?;
-    match filed.open(base) {
-        Ok(_) => Ok(0),
-        Err(refused) => Ok(refused.0.number()),
-    }
+    Ok(code(filed.open(base).map_err(|refused| refused.0)))
 }
 
 // Answers the number of closing book A's tender at the time.
 fn close_code(time: u32) -> Result<u8, Refusal> {
-    match opened()?.close(time) {
-        Ok(_) => Ok(0),
-        Err(refused) => Ok(refused.0.number()),
-    }
+    let tender = opened()?;
+    Ok(code(tender.close(time).map_err(|refused| refused.0)))
 }
 
 #[test]
@@ -108,7 +92,7 @@ fn opening_and_closing(rt: HostRuntime) -> Result<(), Fail> {
 #[test]
 fn entries(rt: HostRuntime) -> Result<(), Fail> {
     let tender = opened()?;
-    let mut records = [UNUSED; 512];
+    let mut records = [Offer::default(); 512];
     let mut book = Book::new(&mut records);
     assert_eq!(rt;
         code(book.enter(
@@ -169,7 +153,7 @@ fn entries(rt: HostRuntime) -> Result<(), Fail> {
 #[test]
 fn the_513th_entry(rt: HostRuntime) -> Result<(), Fail> {
     let tender = opened()?;
-    let mut records = [UNUSED; 512];
+    let mut records = [Offer::default(); 512];
     let mut book = Book::new(&mut records);
     for _ in 0..512 {
         book.enter(&tender, ENTRY, &[BUYER])?;
@@ -181,7 +165,7 @@ fn the_513th_entry(rt: HostRuntime) -> Result<(), Fail> {
 #[test]
 fn changes_and_cancellations(rt: HostRuntime) -> Result<(), Fail> {
     let tender = opened()?;
-    let mut records = [UNUSED; 512];
+    let mut records = [Offer::default(); 512];
     let mut book = Book::new(&mut records);
     assert_eq!(rt; code(book.change(&tender, CHANGE)), 11);
     book.enter(&tender, ENTRY, &[BUYER])?;
@@ -217,7 +201,7 @@ fn changes_and_cancellations(rt: HostRuntime) -> Result<(), Fail> {
 #[test]
 fn other_than_512_records(rt: HostRuntime) -> Result<(), Fail> {
     let tender = opened()?;
-    let mut records = [UNUSED; 511];
+    let mut records = [Offer::default(); 511];
     assert_eq!(rt; code(Book::check(&records)), 14);
     let mut book = Book::new(&mut records);
     assert_eq!(rt; code(book.enter(&tender, ENTRY, &[BUYER])), 14);

@@ -6,12 +6,12 @@ use lines::Answer;
 
 // Prints the answer. One that tells of a fault is a failure.
 pub fn print_answer(rt: &HostRuntime, answer: &Answer) -> Result<(), Failure>
-    ensures { Ends answer.now.fault result }
+    ensures { Ends answer.now result }
 {
-    let text = answer.text.as_str();
+    let text = answer.text();
     print!(rt; "{text}")?;
-    if answer.fault {
-        return Err(Failure::Fault);
+    match answer {
+        Answer::Report(_) => Ok(()),
+        Answer::Fault(_) => Err(Failure::Fault),
     }
-    Ok(())
 }

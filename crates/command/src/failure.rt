@@ -31,15 +31,13 @@ fn say(rt: &HostRuntime, program: &str, failure: &Failure) -> io::Result<()> {
 pub fn told(rt: &HostRuntime, program: &str, ended: Result<(), Failure>) -> Result<(), Failure>
     ensures { result ≡ ended }
 {
-    match ended {
-        Ok(()) => Ok(()),
-        Err(failure) => {
-            let _ = say(rt, program, &failure);
-            Err(failure)
-        }
+    if let Err(failure) = &ended {
+        let _ = say(rt, program, failure);
     }
+    ended
 }
 
+// Written out, as below, since the clauses of what uses `?` cite `from_gives`, which no derive gives.
 impl From<AllocError> for Failure {
     ghost from_gives = { λ _ r. r ≡ OutOfMemory };
 

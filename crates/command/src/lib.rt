@@ -4,7 +4,9 @@
 mod ending;
 mod failure;
 mod input;
+mod program;
 
 pub use ending::print_answer;
 pub use failure::{Failure, told};
 pub use input::read_input;
+pub use program::{conclude, run};

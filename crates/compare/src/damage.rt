@@ -1,10 +1,14 @@
 // Files that are no tender: cut short, with other bytes put in, too long, or with bytes altered.
+ghost use Rattle.std.specs.Prelude.{◌≤◌};
+
+use super::bench::Bench;
 use super::files::compare_file;
-use super::score::Score;
 use std::alloc::{AllocError, Global};
 
 // The value of a hexadecimal digit; 0 for any other letter.
-fn digit(letter: u8) -> u8 {
+fn digit(letter: u8) -> u8
+    ensures { result ≤ 15 }
+{
     match letter {
         b'0'..=b'9' => letter - b'0',
         b'a'..=b'f' => letter - b'a' + 10,
@@ -15,14 +19,9 @@ fn digit(letter: u8) -> u8 {
 // The bytes that hexadecimal digits tell, two for each.
 pub(crate) fn from_hex(heap: Global, digits: &str) -> Result<Vec<u8>, AllocError> {
     let mut bytes = Vec::new(heap);
-    let mut high = None;
-    for letter in digits.bytes() {
-        match high {
-            None => high = Some(digit(letter)),
-            Some(first) => {
-                bytes.push((first % 16) * 16 + digit(letter) % 16)?;
-                high = None;
-            }
+    for pair in digits.as_bytes().chunks_exact(2) {
+        if let [high, low] = pair {
+            bytes.push(digit(*high) * 16 + digit(*low))?;
         }
     }
     Ok(bytes)
@@ -49,35 +48,35 @@ pub(crate) fn spliced(
 
 // Makes a file so long, with zeros at its end.
 pub(crate) fn padded(file: &mut Vec<u8>, length: usize) -> Result<(), AllocError> {
-    for _ in file.len()..length {
-        file.push(0)?;
-    }
-    Ok(())
+    let length = length.max(file.len());
+    file.resize(length, 0)
 }
 
 // Compares a file cut at every byte.
-pub(crate) fn cut(rt: &HostRuntime, score: &mut Score, file: &[u8]) -> anyhow::Result<()> {
-    for length in 0..file.len() {
-        let _line = compare_file(rt, score, &file[0..length])?;
+pub(crate) fn cut(bench: &mut Bench<'_>, file: &[u8]) -> anyhow::Result<()> {
+    let mut left = file;
+    while let Some((_, shorter)) = left.split_last() {
+        let _line = compare_file(bench, shorter)?;
+        left = shorter;
     }
     Ok(())
 }
 
-// A file with some bits of one byte turned.
-fn turned(heap: Global, file: &[u8], place: usize, bits: u8) -> Result<Vec<u8>, AllocError> {
+// A file with another byte at a place.
+fn altered(heap: Global, file: &[u8], place: usize, byte: u8) -> Result<Vec<u8>, AllocError> {
     let mut other = file.to_vec(heap)?;
-    if let Some(byte) = other.get_mut(place) {
-        *byte ^= bits;
+    if let Some(old) = other.get_mut(place) {
+        *old = byte;
     }
     Ok(other)
 }
 
-// Compares a file with each byte in turn made another.
-pub(crate) fn flip(rt: &HostRuntime, score: &mut Score, file: &[u8]) -> anyhow::Result<()> {
-    for place in 0..file.len() {
+// Compares a file with some bits of each byte in turn altered.
+pub(crate) fn flip(bench: &mut Bench<'_>, file: &[u8]) -> anyhow::Result<()> {
+    for (place, byte) in file.iter().enumerate() {
         for bits in [1, 2, 128, 255] {
-            let other = turned(rt.alloc(), file, place, bits)?;
-            let _line = compare_file(rt, score, other.as_slice())?;
+            let other = altered(bench.heap(), file, place, *byte ^ bits)?;
+            let _line = compare_file(bench, other.as_slice())?;
         }
     }
     Ok(())

@@ -29,7 +29,7 @@ impl Dice {
             return 0;
         }
         let x = self.next() >> 20;
-        (x % limit as u64) as u32
+        (x % u64::from(limit)) as u32
     }
 
     // A number from the first to the last.

@@ -1,6 +1,6 @@
 // Files, whole: what both programs print.
+use super::bench::Bench;
 use super::program;
-use super::score::Score;
 
 // Prints a file in hexadecimal digits.
 fn show_file(rt: &HostRuntime, file: &[u8]) -> anyhow::Result<()> {
@@ -12,25 +12,21 @@ fn show_file(rt: &HostRuntime, file: &[u8]) -> anyhow::Result<()> {
     Ok(())
 }
 
-// Prints a file on which the two sides differ, and what each says.
-fn show_difference(
-    rt: &HostRuntime,
-    file: &[u8],
-    product: &str,
-    reference: &str,
-) -> anyhow::Result<()> {
-    show_file(rt, file)?;
-    print!(rt; "the product says\n{product}")?;
-    print!(rt; "the reference says\n{reference}")?;
+// Prints a text under its name.
+fn show_text(rt: &HostRuntime, name: &str, text: &str) -> anyhow::Result<()> {
+    print!(rt; "{name}\n{text}")?;
     Ok(())
 }
 
-// Prints a file of which the text is another than was known beforehand.
-fn show_surprise(rt: &HostRuntime, file: &[u8], expected: &str, found: &str) -> anyhow::Result<()> {
-    show_file(rt, file)?;
-    print!(rt; "expected\n{expected}")?;
-    print!(rt; "found\n{found}")?;
-    Ok(())
+// Whether the two sides say the same of a file; where they do not, prints what each says.
+fn agree(rt: &HostRuntime, file: &[u8], product: &str, reference: &str) -> anyhow::Result<bool> {
+    let agrees = product == reference;
+    if !agrees {
+        show_file(rt, file)?;
+        show_text(rt, "the product says", product)?;
+        show_text(rt, "the reference says", reference)?;
+    }
+    Ok(agrees)
 }
 
 // The number in the line of a fault; 0 in any other.
@@ -39,69 +35,59 @@ fn fault_number(line: &str) -> u64 {
     if words.next() != Some("fault") {
         return 0;
     }
-    let _layer = words.next();
-    match words.next() {
-        Some(word) => word.parse::<u64>().unwrap_or(0),
-        None => 0,
-    }
+    words.nth(1).and_then(|word| word.parse().ok()).unwrap_or(0)
 }
 
 // Compares the line and the statement of a file, and answers the line.
-pub(crate) fn compare_file(
-    rt: &HostRuntime,
-    score: &mut Score,
-    file: &[u8],
-) -> anyhow::Result<String> {
-    let heap = rt.alloc();
+pub(crate) fn compare_file(bench: &mut Bench<'_>, file: &[u8]) -> anyhow::Result<String> {
+    let heap = bench.heap();
     let line = program::tender(heap, file)?;
     let other = reference::tender(heap, file)?;
-    score.lines.note(line.as_str() == other.as_str());
-    if line.as_str() != other.as_str() {
-        show_difference(rt, file, line.as_str(), other.as_str())?;
-    }
+    let agrees = agree(bench.rt, file, line.as_str(), other.as_str())?;
+    bench.score.lines.note(agrees);
     let text = program::statement(heap, file)?;
     let other = reference::statement(heap, file)?;
-    score.statements.note(text.as_str() == other.as_str());
-    if text.as_str() != other.as_str() {
-        show_difference(rt, file, text.as_str(), other.as_str())?;
-    }
-    score.meet(fault_number(line.as_str()));
+    let agrees = agree(bench.rt, file, text.as_str(), other.as_str())?;
+    bench.score.statements.note(agrees);
+    bench.score.meet(fault_number(line.as_str()));
     Ok(line)
+}
+
+// Notes whether a file's text is as it was known beforehand; where it is not, prints what was expected and what was found.
+fn note_text(
+    bench: &mut Bench<'_>,
+    file: &[u8],
+    agrees: bool,
+    expected: &str,
+    found: &str,
+) -> anyhow::Result<()> {
+    bench.score.expected.note(agrees);
+    if !agrees {
+        show_file(bench.rt, file)?;
+        show_text(bench.rt, "expected", expected)?;
+        show_text(bench.rt, "found", found)?;
+    }
+    Ok(())
 }
 
 // Compares a file of which the line is known beforehand, but for the byte that ends it.
 pub(crate) fn expect_line(
-    rt: &HostRuntime,
-    score: &mut Score,
+    bench: &mut Bench<'_>,
     file: &[u8],
     expected: &str,
 ) -> anyhow::Result<()> {
-    let line = compare_file(rt, score, file)?;
+    let line = compare_file(bench, file)?;
     let agrees = line.as_str().strip_suffix('\n') == Some(expected);
-    score.expected.note(agrees);
-    if !agrees {
-        show_surprise(rt, file, expected, line.as_str())?;
-    }
-    Ok(())
+    note_text(bench, file, agrees, expected, line.as_str())
 }
 
 // Compares a file of whose statement one line is known beforehand.
 pub(crate) fn expect_shown(
-    rt: &HostRuntime,
-    score: &mut Score,
+    bench: &mut Bench<'_>,
     file: &[u8],
     expected: &str,
 ) -> anyhow::Result<()> {
-    let text = program::statement(rt.alloc(), file)?;
-    let mut agrees = false;
-    for line in text.as_str().lines() {
-        if line == expected {
-            agrees = true;
-        }
-    }
-    score.expected.note(agrees);
-    if !agrees {
-        show_surprise(rt, file, expected, text.as_str())?;
-    }
-    Ok(())
+    let text = program::statement(bench.heap(), file)?;
+    let agrees = text.as_str().lines().any(|line| line == expected);
+    note_text(bench, file, agrees, expected, text.as_str())
 }

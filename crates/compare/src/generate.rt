@@ -44,9 +44,9 @@ fn fill_terms(plan: &mut Plan, dice: &mut Dice) {
 
 // A base price in its span, or about there.
 fn fill_base(plan: &mut Plan, dice: &mut Dice) {
-    let least = if plan.terms.kind == b'G' { 85 } else { 107 };
-    let percent = dice.between(least, 115) as u64;
-    let close = plan.terms.previous_close as u64;
+    let least = if plan.is_general() { 85 } else { 107 };
+    let percent = u64::from(dice.between(least, 115));
+    let close = u64::from(plan.terms.previous_close);
     let base = (close * percent + 99) / 100;
     plan.base = u32::try_from(base).unwrap_or(0);
     if dice.once_in(40) {
@@ -68,14 +68,11 @@ fn lots(dice: &mut Dice) -> u32 {
 
 // Buyers, mostly as many as the kind may have.
 fn fill_buyers(plan: &mut Plan, dice: &mut Dice) -> Result<(), AllocError> {
-    let most = if plan.terms.kind == b'G' { 1 } else { 8 };
+    let most = if plan.is_general() { 1 } else { 8 };
     let count = dice.between(1, most);
-    for i in 0..count {
+    for account in 7..count.saturating_add(7) {
         let lots = lots(dice).saturating_add(dice.below(30));
-        plan.buyers.push(Buyer {
-            account: i.saturating_add(7),
-            lots,
-        })?;
+        plan.buyers.push(Buyer { account, lots })?;
     }
     if dice.once_in(40) {
         let lots = dice.below(2_000_000);
@@ -139,11 +136,7 @@ fn fill_calls(plan: &mut Plan, dice: &mut Dice) -> Result<(), AllocError> {
         2 => dice.between(100, 300),
         _ => dice.between(1, 30),
     };
-    let first = if plan.terms.kind == b'G' {
-        54_000u32
-    } else {
-        52_200
-    };
+    let first = if plan.is_general() { 54_000u32 } else { 52_200 };
     let mut time = first;
     for _ in 0..count {
         time = time.saturating_add(dice.below(4));
@@ -165,7 +158,7 @@ pub(crate) fn generated(heap: Global, dice: &mut Dice) -> Result<Plan, AllocErro
     } else {
         Plan::financing(heap)
     };
-    if plan.terms.kind == b'G' {
+    if plan.is_general() {
         plan.terms.method = 1 + dice.below(2) as u8;
         plan.terms.shortfall = if dice.once_in(2) { b'T' } else { b'V' };
     }

@@ -1,10 +1,12 @@
 // Runs the product and the reference on the same tenders, draws, sharings and settlements, and compares every figure.
 #![tactic(auto)]
 
+mod bench;
 mod cases;
 mod damage;
 mod dice;
 mod encode;
+mod figures;
 mod files;
 mod generate;
 mod plan;
@@ -18,6 +20,7 @@ mod sharings;
 mod steps;
 
 use anyhow::anyhow;
+use bench::Bench;
 use cases::compare_cases;
 use dice::Dice;
 use encode::encode;
@@ -33,30 +36,25 @@ use steps::compare_steps;
 const TENDERS: u32 = 4_000;
 
 // Compares a generated tender step by step, its file, and the file damaged.
-fn compare_generated(rt: &HostRuntime, score: &mut Score, dice: &mut Dice) -> anyhow::Result<()> {
-    let plan = generated(rt.alloc(), dice)?;
-    let _figures = compare_steps(rt, score, &plan)?;
-    let mut file = encode(rt.alloc(), &plan)?;
-    let _line = compare_file(rt, score, file.as_slice())?;
+fn compare_generated(bench: &mut Bench<'_>, dice: &mut Dice) -> anyhow::Result<()> {
+    let plan = generated(bench.heap(), dice)?;
+    let _figures = compare_steps(bench, &plan)?;
+    let mut file = encode(bench.heap(), &plan)?;
+    let _line = compare_file(bench, file.as_slice())?;
     damage(&mut file, dice)?;
-    let _line = compare_file(rt, score, file.as_slice())?;
+    let _line = compare_file(bench, file.as_slice())?;
     Ok(())
 }
 
 // Compares what is generated: draws, tenders and sharings.
-fn compare_all(
-    rt: &HostRuntime,
-    score: &mut Score,
-    dice: &mut Dice,
-    tenders: u32,
-) -> anyhow::Result<()> {
-    compare_strides(rt, score, dice)?;
-    compare_records(rt, score, dice)?;
+fn compare_all(bench: &mut Bench<'_>, dice: &mut Dice, tenders: u32) -> anyhow::Result<()> {
+    compare_strides(bench, dice)?;
+    compare_records(bench, dice)?;
     for _ in 0..tenders {
-        compare_generated(rt, score, dice)?;
+        compare_generated(bench, dice)?;
     }
-    compare_sharings(rt, score, dice, tenders)?;
-    compare_settlements(rt, score, dice, tenders)
+    compare_sharings(bench, dice, tenders)?;
+    compare_settlements(bench, dice, tenders)
 }
 
 // Compares the cases of the file that the first argument names, and as many generated tenders as the second says.
@@ -70,12 +68,13 @@ fn start(rt: &HostRuntime) -> anyhow::Result<()> {
         Some(word) => word.as_str().parse::<u32>()?,
         None => TENDERS,
     };
-    let mut score = Score::new();
+    let score = Score::default();
+    let mut bench = Bench { rt, score };
     let mut dice = Dice::new(0x2545_f491_4f6c_dd1d);
     let text = fs::read_to_string(rt, path)?;
-    compare_cases(rt, &mut score, text.as_str())?;
-    compare_all(rt, &mut score, &mut dice, tenders)?;
-    score.show(rt)
+    compare_cases(&mut bench, text.as_str())?;
+    compare_all(&mut bench, &mut dice, tenders)?;
+    bench.score.show(rt)
 }
 
 fn main(rt: HostRuntime) -> anyhow::Result<()> {

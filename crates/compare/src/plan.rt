@@ -1,6 +1,6 @@
 // A tender from filing to closing, as it is handed over to both sides.
-use reference::{Buyer, Call, Terms};
-use std::alloc::{AllocError, Global};
+use reference::{Buyer, Call, Places, Terms};
+use std::alloc::Global;
 
 #[derive(Drop)]
 pub(crate) struct Plan {
@@ -11,12 +11,9 @@ pub(crate) struct Plan {
     pub(crate) base: u32,
     pub(crate) calls: Vec<Call>,
     pub(crate) closing: u32,
-    // what no file says: the buyers handed over later where they are others than those filed, and the sizes of the places
-    pub(crate) others: Vec<Buyer>,
-    pub(crate) hands_others: bool,
-    pub(crate) records: usize,
-    pub(crate) fills: usize,
-    pub(crate) rows: usize,
+    // what no file says: the buyers handed over later, where they are others than those filed, and the sizes of the places
+    pub(crate) others: Option<Vec<Buyer>>,
+    pub(crate) places: Places,
 }
 
 impl Plan {
@@ -37,11 +34,12 @@ impl Plan {
             base: 4_200,
             calls: Vec::new(heap),
             closing: 57_600,
-            others: Vec::new(heap),
-            hands_others: false,
-            records: 512,
-            fills: 512,
-            rows: 8,
+            others: None,
+            places: Places {
+                records: 512,
+                fills: 512,
+                rows: 8,
+            },
         }
     }
 
@@ -55,12 +53,16 @@ impl Plan {
         plan
     }
 
+    // Whether it says that it is a general tender. The letter is handed over as it is, so that both sides judge it.
+    pub(crate) fn is_general(&self) -> bool {
+        self.terms.kind == b'G'
+    }
+
     // The buyers that are handed over to calls and allotment.
     pub(crate) fn handed(&self) -> &[Buyer] {
-        if self.hands_others {
-            self.others.as_slice()
-        } else {
-            self.buyers.as_slice()
+        match &self.others {
+            Some(others) => others.as_slice(),
+            None => self.buyers.as_slice(),
         }
     }
 }

@@ -1,20 +1,13 @@
 // What was compared, and how much of it agreed.
 use anyhow::anyhow;
 
-#[derive(Clone, Copy)]
+#[derive(Clone, Copy, PartialEq, Eq, Debug, Default)]
 pub(crate) struct Count {
     compared: u64,
     agreed: u64,
 }
 
 impl Count {
-    fn new() -> Count {
-        Count {
-            compared: 0,
-            agreed: 0,
-        }
-    }
-
     // Counts one comparison.
     pub(crate) fn note(&mut self, agrees: bool) {
         self.compared = self.compared.saturating_add(1);
@@ -37,7 +30,7 @@ impl Count {
     }
 }
 
-#[derive(Drop)]
+#[derive(Default, Drop)]
 pub(crate) struct Score {
     pub(crate) expected: Count,
     pub(crate) lines: Count,
@@ -47,46 +40,28 @@ pub(crate) struct Score {
     pub(crate) draws: Count,
     pub(crate) shares: Count,
     pub(crate) settlements: Count,
-    // how often each refusal was met, by its number
+    // how often each refusal was met, by its number in the register
     met: [u64; 24],
 }
 
 impl Score {
-    pub(crate) fn new() -> Score {
-        Score {
-            expected: Count::new(),
-            lines: Count::new(),
-            statements: Count::new(),
-            runs: Count::new(),
-            figures: 0,
-            draws: Count::new(),
-            shares: Count::new(),
-            settlements: Count::new(),
-            met: [0; 24],
-        }
-    }
-
     // Counts a refusal that both sides gave.
     pub(crate) fn meet(&mut self, number: u64) {
-        if number < 24 {
-            let times = self.met[number as usize];
-            self.met[number as usize] = times.saturating_add(1);
+        if let Some(times) = self.met.get_mut(number as usize) {
+            *times = times.saturating_add(1);
         }
     }
 
     // Prints which refusals were met, and answers whether all were.
     fn show_met(&self, rt: &HostRuntime) -> anyhow::Result<bool> {
-        let mut all = true;
         print!(rt; "refusals met:")?;
-        for number in 1..24usize {
-            if self.met[number] > 0 {
+        for (number, times) in self.met.iter().enumerate() {
+            if number > 0 && *times > 0 {
                 print!(rt; " {number}")?;
-            } else {
-                all = false;
             }
         }
         println!(rt; "")?;
-        Ok(all)
+        Ok(self.met.iter().skip(1).all(|times| *times > 0))
     }
 
     // Prints all counts; a disagreement, or a refusal that was never met, is an error.
@@ -111,12 +86,15 @@ impl Score {
 
     // Whether something did not agree.
     fn differs(&self) -> bool {
-        self.expected.differs()
-            || self.lines.differs()
-            || self.statements.differs()
-            || self.runs.differs()
-            || self.draws.differs()
-            || self.shares.differs()
-            || self.settlements.differs()
+        let counts = [
+            self.expected,
+            self.lines,
+            self.statements,
+            self.runs,
+            self.draws,
+            self.shares,
+            self.settlements,
+        ];
+        counts.iter().any(|count| count.differs())
     }
 }

@@ -5,131 +5,130 @@ use std::alloc::{AllocError, Global};
 
 // A word as a number: a decimal one, or the bytes of its letters.
 fn value(word: &str) -> u32 {
-    match word.parse::<u32>() {
-        Ok(number) => number,
-        Err(_) => {
-            let mut letters = 0u32;
-            for letter in word.bytes() {
-                letters = letters.wrapping_mul(256).wrapping_add(letter as u32);
-            }
-            letters
+    word.parse().unwrap_or_else(|_| {
+        word.bytes().fold(0, |letters: u32, letter| {
+            letters.wrapping_mul(256).wrapping_add(u32::from(letter))
+        })
+    })
+}
+
+// A line: its first word, what stands behind it, and the words there as numbers.
+#[derive(Drop)]
+pub(crate) struct Command<'a> {
+    pub(crate) word: &'a str,
+    pub(crate) rest: &'a str,
+    fields: Vec<u32>,
+}
+
+impl<'a> Command<'a> {
+    pub(crate) fn new(
+        heap: Global,
+        word: &'a str,
+        rest: &'a str,
+    ) -> Result<Command<'a>, AllocError> {
+        let mut fields = Vec::new(heap);
+        for word in rest.split(' ') {
+            fields.push(value(word))?;
+        }
+        Ok(Command { word, rest, fields })
+    }
+
+    // The field at an index; 0 where there is none.
+    pub(crate) fn field(&self, i: usize) -> u32 {
+        self.fields.get(i).copied().unwrap_or(0)
+    }
+
+    // A field that is one letter.
+    fn letter(&self, i: usize) -> u8 {
+        (self.field(i) % 256) as u8
+    }
+
+    // Its call, if it is one.
+    fn call(&self) -> Option<Call> {
+        let time = self.field(0);
+        let member = self.field(1).to_be_bytes();
+        match self.word {
+            "entry" => Some(Call::Enter {
+                time,
+                member,
+                account: self.field(2),
+                price: self.field(3),
+                lots: self.field(4),
+            }),
+            "change" => Some(Call::Change {
+                time,
+                member,
+                number: self.field(2),
+                price: self.field(3),
+                lots: self.field(4),
+            }),
+            "cancel" => Some(Call::Cancel {
+                time,
+                member,
+                number: self.field(2),
+            }),
+            _ => None,
         }
     }
 }
 
-// The words after the first, as numbers.
-pub(crate) fn fields(heap: Global, line: &str) -> Result<Vec<u32>, AllocError> {
-    let mut fields = Vec::new(heap);
-    for word in line.split(' ').skip(1) {
-        fields.push(value(word))?;
-    }
-    Ok(fields)
-}
-
-// The field at an index; 0 where there is none.
-pub(crate) fn field(fields: &[u32], i: usize) -> u32 {
-    fields.get(i).copied().unwrap_or(0)
-}
-
-// A field that is one letter.
-fn letter(fields: &[u32], i: usize) -> u8 {
-    (field(fields, i) % 256) as u8
-}
-
-// The call of a line, if it is one.
-fn call_of(word: &str, fields: &[u32]) -> Option<Call> {
-    let time = field(fields, 0);
-    let member = field(fields, 1).to_be_bytes();
-    if word == "entry" {
-        return Some(Call::Enter {
-            time,
-            member,
-            account: field(fields, 2),
-            price: field(fields, 3),
-            lots: field(fields, 4),
-        });
-    }
-    if word == "change" {
-        return Some(Call::Change {
-            time,
-            member,
-            number: field(fields, 2),
-            price: field(fields, 3),
-            lots: field(fields, 4),
-        });
-    }
-    if word == "cancel" {
-        return Some(Call::Cancel {
-            time,
-            member,
-            number: field(fields, 2),
-        });
-    }
-    None
-}
-
-// Begins another tender.
-fn begin(plan: &mut Plan, heap: Global, word: &str) -> bool {
-    if word == "general" {
-        *plan = Plan::general(heap);
-        return true;
-    }
-    if word == "financing" {
-        *plan = Plan::financing(heap);
-        return true;
-    }
-    false
-}
-
-// Does what a line says of terms, draw, base price, closing time or the sizes of places.
-fn set(plan: &mut Plan, word: &str, fields: &[u32]) -> bool {
-    let first = field(fields, 0);
-    match word {
+// Does what a line says of the tender as a whole: begins another, or sets terms, draw, base price, closing time or the sizes of
+// places.
+fn set(plan: &mut Plan, heap: Global, command: &Command<'_>) -> bool {
+    let first = command.field(0);
+    match command.word {
+        "general" => *plan = Plan::general(heap),
+        "financing" => *plan = Plan::financing(heap),
         "terms" => {
             plan.terms = Terms {
-                kind: letter(fields, 0),
-                method: letter(fields, 1),
-                shortfall: letter(fields, 2),
-                unit: field(fields, 3),
-                previous_close: field(fields, 4),
-                bank_closing: field(fields, 5),
+                kind: command.letter(0),
+                method: command.letter(1),
+                shortfall: command.letter(2),
+                unit: command.field(3),
+                previous_close: command.field(4),
+                bank_closing: command.field(5),
             }
         }
         "draw" => {
             plan.stride = first;
-            plan.shift = field(fields, 1);
+            plan.shift = command.field(1);
         }
         "open" => plan.base = first,
         "close" => plan.closing = first,
-        "records" => plan.records = first as usize,
-        "fills" => plan.fills = first as usize,
-        "rows" => plan.rows = first as usize,
-        "others" => plan.hands_others = true,
+        "records" => plan.places.records = first as usize,
+        "fills" => plan.places.fills = first as usize,
+        "rows" => plan.places.rows = first as usize,
         _ => return false,
     }
     true
 }
 
-// Adds what a line says: a buyer, or one handed over in place of those filed.
-fn add_buyer(plan: &mut Plan, word: &str, fields: &[u32]) -> Result<bool, AllocError> {
+// Adds what a line says: a buyer, or one handed over in place of those filed, or that others are, of whom none need follow.
+fn add_buyer(plan: &mut Plan, heap: Global, command: &Command<'_>) -> Result<bool, AllocError> {
     let buyer = Buyer {
-        account: field(fields, 0),
-        lots: field(fields, 1),
+        account: command.field(0),
+        lots: command.field(1),
     };
-    match word {
+    match command.word {
         "buyer" => plan.buyers.push(buyer)?,
-        "other" => plan.others.push(buyer)?,
+        "other" => plan
+            .others
+            .get_or_insert_with(|| Vec::new(heap))
+            .push(buyer)?,
+        "others" => {
+            let _others = plan.others.get_or_insert_with(|| Vec::new(heap));
+        }
         _ => return Ok(false),
     }
     Ok(true)
 }
 
 // Adds the call of a line, as often as its sixth field says, and once where there is none.
-fn add_call(plan: &mut Plan, word: &str, fields: &[u32]) -> Result<bool, AllocError> {
-    let Some(call) = call_of(word, fields) else {
+fn add_call(plan: &mut Plan, command: &Command<'_>) -> Result<bool, AllocError> {
+    let Some(call) = command.call() else {
         return Ok(false);
     };
-    for _ in 0..field(fields, 5).max(1) {
+    for _ in 0..command.field(5).max(1) {
         plan.calls.push(call)?;
     }
     Ok(true)
@@ -139,14 +138,7 @@ fn add_call(plan: &mut Plan, word: &str, fields: &[u32]) -> Result<bool, AllocEr
 pub(crate) fn build(
     heap: Global,
     plan: &mut Plan,
-    word: &str,
-    fields: &[u32],
+    command: &Command<'_>,
 ) -> Result<bool, AllocError> {
-    if begin(plan, heap, word) || set(plan, word, fields) {
-        return Ok(true);
-    }
-    if add_buyer(plan, word, fields)? {
-        return Ok(true);
-    }
-    add_call(plan, word, fields)
+    Ok(set(plan, heap, command) || add_buyer(plan, heap, command)? || add_call(plan, command)?)
 }

@@ -1,7 +1,8 @@
 // Draws and sharing rules, through the library.
+use super::bench::Bench;
 use super::dice::Dice;
+use super::figures::Figures;
 use super::product::narrow;
-use super::score::Score;
 use reference::Rule;
 use sharing::{
     Claim, Draw, LargestRemainder, Proportional, RecordedDraw, Refusal, SharingRule, StrideDraw,
@@ -9,89 +10,76 @@ use sharing::{
 };
 use std::alloc::{AllocError, Global};
 
-// The number of a refusal, or 0.
-fn code_of(answer: Result<(), Refusal>) -> u8 {
-    match answer {
-        Ok(()) => 0,
-        Err(refusal) => refusal.number(),
-    }
+// The number by which both sides refuse, which comes first; 0 where they accept.
+fn number_of(figures: &Figures) -> u64 {
+    figures.as_slice().first().copied().unwrap_or(0)
 }
 
-// The product's rank of each number from 0 to 513, and of the largest.
-fn product_ranks<D: Draw>(heap: Global, draw: &mut D) -> Result<Vec<u16>, AllocError> {
-    let mut ranks = Vec::new(heap);
-    for number in 0..514u16 {
-        ranks.push(draw.rank(number))?;
+// The product's refusal of a stride draw, or its ranks.
+fn product_stride(heap: Global, stride: u32, shift: u32) -> Result<Figures, AllocError> {
+    let mut figures = Figures::new(heap);
+    let draw = StrideDraw::new(narrow(stride), narrow(shift));
+    if let Some(mut draw) = figures.answer(draw)? {
+        figures.ranks(|number| draw.rank(number))?;
     }
-    ranks.push(draw.rank(65_535))?;
-    Ok(ranks)
+    Ok(figures)
 }
 
-// The reference's rank of the same numbers.
-fn reference_ranks(heap: Global, drawn: &[u16]) -> Result<Vec<u16>, AllocError> {
-    let mut ranks = Vec::new(heap);
-    for number in 0..514u32 {
-        ranks.push(reference::rank(drawn, number))?;
+// The reference's refusal of a stride draw, or its ranks.
+fn reference_stride(heap: Global, stride: u32, shift: u32) -> Result<Figures, AllocError> {
+    let mut figures = Figures::new(heap);
+    if let Some(()) = figures.answer(reference::judge_stride(stride, shift))? {
+        let drawn = reference::stride_ranks(heap, stride, shift)?;
+        let drawn = drawn.as_slice();
+        figures.ranks(|number| reference::rank(drawn, u32::from(number)))?;
     }
-    ranks.push(reference::rank(drawn, 65_535))?;
-    Ok(ranks)
-}
-
-// The product's refusal of a stride draw, and its ranks.
-fn product_stride(heap: Global, stride: u32, shift: u32) -> Result<(u8, Vec<u16>), AllocError> {
-    match StrideDraw::new(narrow(stride), narrow(shift)) {
-        Ok(draw) => {
-            let mut draw = draw;
-            let ranks = product_ranks(heap, &mut draw)?;
-            Ok((0, ranks))
-        }
-        Err(refusal) => Ok((refusal.number(), Vec::new(heap))),
-    }
-}
-
-// The reference's refusal of a stride draw, and its ranks.
-fn reference_stride(heap: Global, stride: u32, shift: u32) -> Result<(u8, Vec<u16>), AllocError> {
-    let code = reference::stride_code(stride, shift);
-    if code != 0 {
-        return Ok((code, Vec::new(heap)));
-    }
-    let drawn = reference::stride_ranks(heap, stride, shift)?;
-    let ranks = reference_ranks(heap, drawn.as_slice())?;
-    Ok((code, ranks))
+    Ok(figures)
 }
 
 // Compares a stride draw.
-fn compare_stride(
-    rt: &HostRuntime,
-    score: &mut Score,
-    stride: u32,
-    shift: u32,
-) -> anyhow::Result<()> {
-    let (code, product) = product_stride(rt.alloc(), stride, shift)?;
-    let (other, reference) = reference_stride(rt.alloc(), stride, shift)?;
-    let agrees = code == other && product.as_slice() == reference.as_slice();
-    score.draws.note(agrees);
-    score.meet(code as u64);
+fn compare_stride(bench: &mut Bench<'_>, stride: u32, shift: u32) -> anyhow::Result<()> {
+    let product = product_stride(bench.heap(), stride, shift)?;
+    let reference = reference_stride(bench.heap(), stride, shift)?;
+    let agrees = product == reference;
+    bench.score.draws.note(agrees);
+    bench.score.meet(number_of(&product));
     if !agrees {
+        let rt = bench.rt;
         println!(rt; "draws differ: stride {stride}, shift {shift}")?;
     }
     Ok(())
 }
 
-// Compares a recorded draw: whether its ranks are refused, and how it then ranks.
-fn compare_recorded(rt: &HostRuntime, score: &mut Score, ranks: &[u16]) -> anyhow::Result<()> {
-    let heap = rt.alloc();
-    let code = reference::ranks_code(ranks);
+// The product's refusal of recorded ranks, and how the draw then ranks.
+fn product_recorded(heap: Global, ranks: &[u16]) -> Result<Figures, AllocError> {
+    let mut figures = Figures::new(heap);
+    let _accepted = figures.answer(RecordedDraw::check(ranks))?;
     let mut draw = RecordedDraw::new(ranks);
-    let product = product_ranks(heap, &mut draw)?;
+    figures.ranks(|number| draw.rank(number))?;
+    Ok(figures)
+}
+
+// The reference's refusal of recorded ranks, and how the draw then ranks.
+fn reference_recorded(heap: Global, ranks: &[u16]) -> Result<Figures, AllocError> {
+    let mut figures = Figures::new(heap);
+    let _accepted = figures.answer(reference::judge_ranks(ranks))?;
     let drawn = reference::recorded_ranks(heap, ranks)?;
-    let reference = reference_ranks(heap, drawn.as_slice())?;
-    let agrees = code_of(RecordedDraw::check(ranks)) == code
-        && product.as_slice() == reference.as_slice();
-    score.draws.note(agrees);
-    score.meet(code as u64);
+    let drawn = drawn.as_slice();
+    figures.ranks(|number| reference::rank(drawn, u32::from(number)))?;
+    Ok(figures)
+}
+
+// Compares a recorded draw: whether its ranks are refused, and how it then ranks.
+fn compare_recorded(bench: &mut Bench<'_>, ranks: &[u16]) -> anyhow::Result<()> {
+    let product = product_recorded(bench.heap(), ranks)?;
+    let reference = reference_recorded(bench.heap(), ranks)?;
+    let agrees = product == reference;
+    let number = number_of(&reference);
+    bench.score.draws.note(agrees);
+    bench.score.meet(number);
     if !agrees {
-        println!(rt; "recorded draws differ: {code}")?;
+        let rt = bench.rt;
+        println!(rt; "recorded draws differ: {number}")?;
     }
     Ok(())
 }
@@ -103,16 +91,16 @@ fn claims(heap: Global, dice: &mut Dice) -> Result<Vec<Claim>, AllocError> {
         1 => dice.between(500, 514),
         _ => dice.between(1, 20),
     };
-    let from = dice.below(512);
+    let mut number = dice.below(512);
     let step = dice.below(256) * 2 + 1;
     let most = if dice.once_in(6) { 1_000_000 } else { 9 };
     let mut claims = Vec::new(heap);
-    for i in 0..count {
-        let number = from.saturating_add(step.saturating_mul(i)) % 512;
+    for _ in 0..count {
         claims.push(Claim {
             number: narrow(number),
             lots: dice.between(1, most),
         })?;
+        number = (number % 512).saturating_add(step) % 512;
     }
     if dice.once_in(8) {
         claims.push(Claim {
@@ -123,16 +111,12 @@ fn claims(heap: Global, dice: &mut Dice) -> Result<Vec<Claim>, AllocError> {
     Ok(claims)
 }
 
-// The claims in the reference's type.
-fn claims_of(heap: Global, claims: &[Claim]) -> Result<Vec<reference::Claim>, AllocError> {
-    let mut all = Vec::new(heap);
-    for claim in claims {
-        all.push(reference::Claim {
-            number: claim.number as u32,
-            lots: claim.lots,
-        })?;
+// The claim in the reference's type. Both types belong to other crates, so it can be no `From`.
+fn claim_of(claim: &Claim) -> reference::Claim {
+    reference::Claim {
+        number: u32::from(claim.number),
+        lots: claim.lots,
     }
-    Ok(all)
 }
 
 // The product's shares under the rule, or its refusal.
@@ -169,36 +153,40 @@ struct Sharing {
     place: usize,
 }
 
-// The product's refusal and shares.
-fn product_shares(heap: Global, asked: &Sharing) -> Result<(u8, Vec<u32>), AllocError> {
+// The product's refusal, and what then is in the place.
+fn product_shares(heap: Global, asked: &Sharing) -> Result<Figures, AllocError> {
+    let mut figures = Figures::new(heap);
     let mut shares = vec![in heap; 0; asked.place]?;
-    let code = code_of(share_by(
+    let _accepted = figures.answer(share_by(
         asked.rule,
         RecordedDraw::new(asked.ranks.as_slice()),
         asked.claims.as_slice(),
         asked.amount,
         shares.as_mut_slice(),
-    ));
-    Ok((code, shares))
+    ))?;
+    figures.lots(shares.as_slice())?;
+    Ok(figures)
 }
 
-// The reference's refusal and shares.
-fn reference_shares(heap: Global, asked: &Sharing) -> Result<(u8, Vec<u32>), AllocError> {
-    let claims = claims_of(heap, asked.claims.as_slice())?;
-    let code = reference::sharing_code(claims.as_slice(), asked.place);
-    if code != 0 {
-        let nothing = vec![in heap; 0; asked.place]?;
-        return Ok((code, nothing));
-    }
-    let ranks = reference::recorded_ranks(heap, asked.ranks.as_slice())?;
-    let shares = reference::shares(
-        heap,
-        asked.rule,
-        ranks.as_slice(),
-        claims.as_slice(),
-        asked.amount,
-    )?;
-    Ok((code, shares))
+// The reference's refusal, and what then is in the place: the shares, or zeros as before.
+fn reference_shares(heap: Global, asked: &Sharing) -> Result<Figures, AllocError> {
+    let mut figures = Figures::new(heap);
+    let claims = asked.claims.iter().map(claim_of).collect::<Vec<_>>(heap)?;
+    let accepted = reference::judge_claims(claims.as_slice(), asked.place);
+    let shares = if let Some(()) = figures.answer(accepted)? {
+        let ranks = reference::recorded_ranks(heap, asked.ranks.as_slice())?;
+        reference::shares(
+            heap,
+            asked.rule,
+            ranks.as_slice(),
+            claims.as_slice(),
+            asked.amount,
+        )?
+    } else {
+        vec![in heap; 0; asked.place]?
+    };
+    figures.lots(shares.as_slice())?;
+    Ok(figures)
 }
 
 // Prints a sharing on which the two sides differ.
@@ -211,15 +199,14 @@ fn show_sharing(rt: &HostRuntime, asked: &Sharing) -> anyhow::Result<()> {
 }
 
 // Compares one sharing round a recorded draw.
-fn compare_sharing(rt: &HostRuntime, score: &mut Score, asked: &Sharing) -> anyhow::Result<()> {
-    let heap = rt.alloc();
-    let (code, product) = product_shares(heap, asked)?;
-    let (other, reference) = reference_shares(heap, asked)?;
-    let agrees = code == other && product.as_slice() == reference.as_slice();
-    score.shares.note(agrees);
-    score.meet(code as u64);
+fn compare_sharing(bench: &mut Bench<'_>, asked: &Sharing) -> anyhow::Result<()> {
+    let product = product_shares(bench.heap(), asked)?;
+    let reference = reference_shares(bench.heap(), asked)?;
+    let agrees = product == reference;
+    bench.score.shares.note(agrees);
+    bench.score.meet(number_of(&product));
     if !agrees {
-        show_sharing(rt, asked)?;
+        show_sharing(bench.rt, asked)?;
     }
     Ok(())
 }
@@ -252,30 +239,25 @@ fn generated(heap: Global, dice: &mut Dice) -> Result<Sharing, AllocError> {
 
 // Compares generated sharings, under each rule.
 pub(crate) fn compare_sharings(
-    rt: &HostRuntime,
-    score: &mut Score,
+    bench: &mut Bench<'_>,
     dice: &mut Dice,
     count: u32,
 ) -> anyhow::Result<()> {
     for _ in 0..count {
-        let mut asked = generated(rt.alloc(), dice)?;
+        let mut asked = generated(bench.heap(), dice)?;
         for rule in [Rule::Proportional, Rule::Remainder, Rule::Time] {
             asked.rule = rule;
-            compare_sharing(rt, score, &asked)?;
+            compare_sharing(bench, &asked)?;
         }
     }
     Ok(())
 }
 
 // Compares stride draws: each stride with some shift, and each shift.
-pub(crate) fn compare_strides(
-    rt: &HostRuntime,
-    score: &mut Score,
-    dice: &mut Dice,
-) -> anyhow::Result<()> {
+pub(crate) fn compare_strides(bench: &mut Bench<'_>, dice: &mut Dice) -> anyhow::Result<()> {
     for number in 0..516 {
-        compare_stride(rt, score, number, dice.below(512))?;
-        compare_stride(rt, score, 1, number)?;
+        compare_stride(bench, number, dice.below(512))?;
+        compare_stride(bench, 1, number)?;
     }
     Ok(())
 }
@@ -292,18 +274,14 @@ fn spoil(ranks: &mut Vec<u16>, dice: &mut Dice) {
 }
 
 // Compares recorded draws: good ranks, and such as are refused. Too few are refused before equal ones.
-pub(crate) fn compare_records(
-    rt: &HostRuntime,
-    score: &mut Score,
-    dice: &mut Dice,
-) -> anyhow::Result<()> {
+pub(crate) fn compare_records(bench: &mut Bench<'_>, dice: &mut Dice) -> anyhow::Result<()> {
     for _ in 0..20 {
-        let mut ranks = ranks(rt.alloc(), dice)?;
-        compare_recorded(rt, score, ranks.as_slice())?;
+        let mut ranks = ranks(bench.heap(), dice)?;
+        compare_recorded(bench, ranks.as_slice())?;
         spoil(&mut ranks, dice);
-        compare_recorded(rt, score, ranks.as_slice())?;
+        compare_recorded(bench, ranks.as_slice())?;
     }
-    compare_recorded(rt, score, &[3; 511])?;
-    compare_recorded(rt, score, &[3; 512])?;
-    compare_recorded(rt, score, &[3; 513])
+    compare_recorded(bench, &[3; 511])?;
+    compare_recorded(bench, &[3; 512])?;
+    compare_recorded(bench, &[3; 513])
 }

@@ -1,11 +1,12 @@
 -- Member codes as words: four printable characters, or # and eight hexadecimal digits.
-use Rattle.std.specs.Prelude.{ℕ, ◌+◌, ◌-◌, ◌*◌, Bool, true, cond, ◌&&◌, List, [], ◌∷◌, length, Some, None, Option, ◌==◌, nat_le, slice_index}
+use Rattle.std.specs.Prelude.{ℕ, ◌+◌, ◌-◌, ◌*◌, Bool, cond, ◌&&◌, List, [], ◌∷◌, length, Some, None, Option, ◌==◌, nat_le, slice_index}
+use Rattle.std.specs.Char.{is_ascii_graphic}
+use Rattle.std.specs.List.{list_all}
 use Rattle.encode.specs.Numbers.{onward}
 
--- each byte is from 33 to 126
+-- each byte is a printable character and no space: from 33 to 126
 abbrev pub all_graphic : List ℕ → Bool
-all_graphic [] = true
-all_graphic (c ∷ cs) = (nat_le 33 c && nat_le c 126) && all_graphic cs
+all_graphic word = list_all is_ascii_graphic word
 
 -- the value of a digit: 0 to 9, a to f or A to F
 abbrev pub hex_digit : ℕ → Option ℕ

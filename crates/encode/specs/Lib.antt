@@ -3,3 +3,4 @@ pub mod Numbers
 pub mod Codes
 pub mod Lines
 pub mod Files
+pub mod Failures

@@ -11,22 +11,22 @@ use Rattle.values.specs.declared.draw.DrawNumbers.{DrawNumbers}
 use Rattle.messages.specs.declared.message.Message.{Message}
 use Rattle.messages.specs.declared.message.Message.TheVariants as messages
 use Rattle.messages.specs.Messages.{said}
-use Rattle.encode.specs.declared.verb.Verb.{Verb}
-use Rattle.encode.specs.declared.verb.Verb.TheVariants as verbs
+use Rattle.messages.specs.declared.tag.Tag.{Tag}
+use Rattle.messages.specs.declared.tag.Tag.TheVariants as tags
 use Rattle.encode.specs.Codes.{code_in}
 use Rattle.encode.specs.Numbers.{onward, letter_in, number_in}
 use Rattle.encode.specs.Pieces.{text_at}
 
--- the verb that a word is
-abbrev pub named : List ℕ → Option Verb
+-- the tag that a word names
+abbrev pub named : List ℕ → Option Tag
 named word =
-    cond (bytes_eq word (codes "terms")) (Some verbs.Terms)
-    (cond (bytes_eq word (codes "buyer")) (Some verbs.Buyer)
-    (cond (bytes_eq word (codes "draw")) (Some verbs.Draw)
-    (cond (bytes_eq word (codes "open")) (Some verbs.Open)
-    (cond (bytes_eq word (codes "entry")) (Some verbs.Entry)
-    (cond (bytes_eq word (codes "change")) (Some verbs.Change)
-    (cond (bytes_eq word (codes "cancel")) (Some verbs.Cancel) (cond (bytes_eq word (codes "close")) (Some verbs.Close) None)))))))
+    cond (bytes_eq word (codes "terms")) (Some tags.Terms)
+    (cond (bytes_eq word (codes "buyer")) (Some tags.Buyer)
+    (cond (bytes_eq word (codes "draw")) (Some tags.Draw)
+    (cond (bytes_eq word (codes "open")) (Some tags.Open)
+    (cond (bytes_eq word (codes "entry")) (Some tags.Entry)
+    (cond (bytes_eq word (codes "change")) (Some tags.Change)
+    (cond (bytes_eq word (codes "cancel")) (Some tags.Cancel) (cond (bytes_eq word (codes "close")) (Some tags.Close) None)))))))
 
 -- a number of one, two and four bytes
 abbrev pub byte_at : List (List ℕ) → ℕ → Option ℕ
@@ -89,20 +89,20 @@ cancellation_said ws =
     of_words 4 ws (onward (whole_at ws 1) (λ t.
     onward (code_in (text_at ws 2)) (λ m. onward (half_at ws 3) (λ n. Some (record { time = t; member = m; number = n })))))
 
--- the message of a verb and the words of its line
-abbrev pub by_verb : List (List ℕ) → Verb → Option Message
-by_verb ws verbs.Terms = said messages.Terms (terms_said ws)
-by_verb ws verbs.Buyer = said messages.Buyer (buyer_said ws)
-by_verb ws verbs.Draw = said messages.Draw (draw_said ws)
-by_verb ws verbs.Open = said messages.Open (amount_said ws)
-by_verb ws verbs.Entry = said (λ e. messages.Call (calls.Enter e)) (entry_said ws)
-by_verb ws verbs.Change = said (λ c. messages.Call (calls.Change c)) (change_said ws)
-by_verb ws verbs.Cancel = said (λ c. messages.Call (calls.Cancel c)) (cancellation_said ws)
-by_verb ws verbs.Close = said messages.Close (amount_said ws)
+-- the message of a tag and the words of its line
+abbrev pub by_tag : List (List ℕ) → Tag → Option Message
+by_tag ws tags.Terms = said messages.Terms (terms_said ws)
+by_tag ws tags.Buyer = said messages.Buyer (buyer_said ws)
+by_tag ws tags.Draw = said messages.Draw (draw_said ws)
+by_tag ws tags.Open = said messages.Open (amount_said ws)
+by_tag ws tags.Entry = said (λ e. messages.Call (calls.Enter e)) (entry_said ws)
+by_tag ws tags.Change = said (λ c. messages.Call (calls.Change c)) (change_said ws)
+by_tag ws tags.Cancel = said (λ c. messages.Call (calls.Cancel c)) (cancellation_said ws)
+by_tag ws tags.Close = said messages.Close (amount_said ws)
 
 -- The message that the words of a line say.
 abbrev pub message_said : List (List ℕ) → Option Message
-message_said ws = onward (named (text_at ws 0)) (by_verb ws)
+message_said ws = onward (named (text_at ws 0)) (by_tag ws)
 
 -- a line without words, or whose first word begins with #, is passed over
 abbrev pub passed_over : List (List ℕ) → Bool

@@ -1,5 +1,6 @@
 -- A text as lines, and a line as words.
-use Rattle.std.specs.Prelude.{ℕ, cond, List, [], ◌∷◌, ◌++◌, map, vec_items, Vec, ◌==◌, slice_index_or}
+use Rattle.std.specs.Prelude.{ℕ, not, List, [], length, map, vec_items, Vec, ◌==◌, slice_index_or}
+use Rattle.std.specs.List.{filter, slice_split}
 use Rattle.std.specs.Borrow.{Bor}
 use Rattle.std.specs.declared.alloc.Global.{Global}
 
@@ -14,21 +15,10 @@ texts v = told (vec_items v)
 abbrev pub text_at : List (List ℕ) → ℕ → List ℕ
 text_at ts i = slice_index_or ts i []
 
--- The pieces between separators, also empty ones. `begun` is what was read of the first.
-abbrev pub pieces_of : ℕ → List ℕ → List ℕ → List (List ℕ)
-pieces_of separator begun [] = begun ∷ []
-pieces_of separator begun (c ∷ cs) =
-    cond (c == separator) (begun ∷ pieces_of separator [] cs) (pieces_of separator (begun ++ c ∷ []) cs)
-
--- the pieces that are not empty
-abbrev pub filled : List (List ℕ) → List (List ℕ)
-filled [] = []
-filled ([] ∷ ws) = filled ws
-filled ((c ∷ cs) ∷ ws) = (c ∷ cs) ∷ filled ws
-
--- the lines of a text, which byte 10 separates, and the words of a line, which spaces separate
+-- the lines of a text, which byte 10 separates
 abbrev pub lines_of : List ℕ → List (List ℕ)
-lines_of text = pieces_of 10 [] text
+lines_of text = slice_split (λ c. c == 10) text
 
+-- the words of a line: what spaces separate, and is not empty
 abbrev pub words_of : List ℕ → List (List ℕ)
-words_of line = filled (pieces_of 32 [] line)
+words_of line = filter (λ word. not (length word == 0)) (slice_split (λ c. c == 32) line)

@@ -1,17 +1,12 @@
 // Member codes as words: four characters, or # and eight hexadecimal digits.
-ghost use Rattle.std.specs.Prelude.{◌≡◌, ◌<◌, ◌≤◌, length, IfSome};
-ghost use Rattle.encode.specs.Codes.{all_graphic, hex_digit, hex_byte, hex_code, code_in};
+ghost use Rattle.std.specs.Prelude.{◌≡◌, ◌<◌, IfSome};
+ghost use Rattle.encode.specs.Codes.{all_graphic, hex_digit, hex_byte, code_in};
 
 // Answers whether each byte is a printable character of ASCII and no space.
 fn all_graphic(word: &[u8]) -> bool
     ensures { result ≡ all_graphic word.now }
 {
-    for byte in word {
-        if *byte < 33 || *byte > 126 {
-            return false;
-        }
-    }
-    true
+    word.iter().all(|byte| byte.is_ascii_graphic())
 }
 
 // Answers the value of a hexadecimal digit.
@@ -31,32 +26,21 @@ fn hex_digit(digit: u8) -> Option<u8>
 fn hex_byte(high: u8, low: u8) -> Option<u8>
     ensures { result ≡ hex_byte high low }
 {
-    let high = hex_digit(high)?;
-    let low = hex_digit(low)?;
-    Some(high * 16 + low)
-}
-
-// Answers the code of the eight hexadecimal digits behind the first byte.
-fn hex_code(word: &[u8]) -> Option<[u8; 4]>
-    requires { length word.now ≡ 9 }
-    ensures { result ≡ hex_code word.now }
-{
-    let first = hex_byte(word[1], word[2])?;
-    let second = hex_byte(word[3], word[4])?;
-    let third = hex_byte(word[5], word[6])?;
-    let fourth = hex_byte(word[7], word[8])?;
-    Some([first, second, third, fourth])
+    Some(hex_digit(high)? * 16 + hex_digit(low)?)
 }
 
 // Answers the member code that the word writes.
 pub fn code(word: &[u8]) -> Option<[u8; 4]>
     ensures { result ≡ code_in word.now }
 {
-    if word.len() == 9 && word[0] == b'#' {
-        return hex_code(word);
+    match word {
+        [b'#', a, b, c, d, e, f, g, h] => Some([
+            hex_byte(*a, *b)?,
+            hex_byte(*c, *d)?,
+            hex_byte(*e, *f)?,
+            hex_byte(*g, *h)?,
+        ]),
+        [a, b, c, d] if all_graphic(word) => Some([*a, *b, *c, *d]),
+        _ => None,
     }
-    if word.len() != 4 || !all_graphic(word) {
-        return None;
-    }
-    Some([word[0], word[1], word[2], word[3]])
 }

@@ -4,7 +4,7 @@ ghost use Rattle.encode.specs.Pieces.{told};
 
 use super::failure::Failure;
 use super::line::{is_passed_over, message};
-use super::pieces::{count, pieces, text_at, words};
+use super::pieces::{lines, words};
 use messages::write_message;
 use std::alloc::Global;
 
@@ -16,9 +16,7 @@ fn write_line(heap: Global, line: &[u8], number: usize, out: &mut Vec<u8>) -> Re
     if is_passed_over(words.as_slice()) {
         return Ok(());
     }
-    let Some(message) = message(words.as_slice()) else {
-        return Err(Failure::Line(number));
-    };
+    let message = message(words.as_slice()).ok_or(Failure::Line(number))?;
     write_message(&message, out)?;
     Ok(())
 }
@@ -27,8 +25,8 @@ fn write_line(heap: Global, line: &[u8], number: usize, out: &mut Vec<u8>) -> Re
 fn write_lines(heap: Global, lines: &[&[u8]], out: &mut Vec<u8>) -> Result<(), Failure>
     ensures { Progress (told lines.now) out.old.items result out.new.items }
 {
-    for i in 0..count(lines) {
-        write_line(heap, text_at(lines, i), i + 1, out)?;
+    for (i, line) in lines.iter().enumerate() {
+        write_line(heap, line, i + 1, out)?;
     }
     Ok(())
 }
@@ -37,7 +35,7 @@ fn write_lines(heap: Global, lines: &[&[u8]], out: &mut Vec<u8>) -> Result<(), F
 pub fn encode(heap: Global, text: &[u8]) -> Result<Vec<u8>, Failure>
     ensures { Encoded text.now result }
 {
-    let lines = pieces(heap, text, b'\n')?;
+    let lines = lines(heap, text)?;
     let mut out = Vec::new(heap);
     write_lines(heap, lines.as_slice(), &mut out)?;
     Ok(out)

@@ -1,12 +1,13 @@
 // Why the program ends without a whole file.
-ghost use Rattle.std.specs.Prelude.{◌≡◌};
+ghost use Rattle.std.specs.Prelude.{◌≡◌, Some};
 ghost use Rattle.encode.specs.declared.failure.Failure.TheVariants.{Memory};
+ghost use Rattle.encode.specs.Failures.{failure_words};
 
 use frames::WriteFault;
 use std::alloc::AllocError;
-use std::io;
+use std::{fmt, io};
 
-#[derive(Drop)]
+#[derive(Clone, Copy, PartialEq, Eq, Debug)]
 pub enum Failure {
     // the line of that number, counted from 1, says no frame
     Line(usize),
@@ -18,18 +19,17 @@ pub enum Failure {
     Io,
 }
 
-impl Failure {
-    // Says on standard error what failed, and hands it on.
-    pub fn told(self, rt: &HostRuntime) -> Failure
-        ensures { result ≡ self }
-    {
-        let _ = match &self {
-            Failure::Line(number) => eprintln!(rt; "line {number}: no such frame"),
-            Failure::TooLong => eprintln!(rt; "the text has over 1048576 bytes"),
-            Failure::Memory => eprintln!(rt; "out of memory"),
-            Failure::Io => eprintln!(rt; "input or output failed"),
-        };
-        self
+// Writes what failed.
+impl fmt::Display for Failure {
+    ghost output = { λ failure. Some (failure_words failure) };
+
+    fn fmt<W: fmt::Write>(&self, f: &mut fmt::Formatter<W>) -> fmt::Result {
+        match self {
+            Failure::Line(number) => write!(f, "line {number}: no such frame"),
+            Failure::TooLong => f.write_str("the text has over 1048576 bytes"),
+            Failure::Memory => f.write_str("out of memory"),
+            Failure::Io => f.write_str("input or output failed"),
+        }
     }
 }
 
@@ -42,6 +42,7 @@ impl From<io::Error> for Failure {
     }
 }
 
+// Written out, as below, since the clauses of what encodes read `from_gives`, which no derive gives.
 impl From<AllocError> for Failure {
     ghost from_gives = { λ _ r. r ≡ Memory };
 

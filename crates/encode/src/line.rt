@@ -5,10 +5,9 @@ ghost use Rattle.encode.specs.Pieces.{told};
 
 use super::code::code;
 use super::number::{four_bytes, letter, one_byte, two_bytes};
-use super::pieces::{count, text_at};
-use super::verb::Verb;
+use super::verb::named;
 use book::{Call, Cancellation, Change, Entry};
-use messages::Message;
+use messages::{Message, Tag};
 use stages::{Buyer, Terms};
 use values::DrawNumbers;
 
@@ -16,16 +15,16 @@ use values::DrawNumbers;
 fn terms(words: &[&[u8]]) -> Option<Terms>
     ensures { result ≡ terms_said (told words.now) }
 {
-    if count(words) != 7 {
+    let [_, kind, method, shortfall, unit, close, bank] = words else {
         return None;
-    }
+    };
     Some(Terms {
-        kind: letter(text_at(words, 1))?,
-        method: one_byte(text_at(words, 2))?,
-        shortfall: letter(text_at(words, 3))?,
-        unit: two_bytes(text_at(words, 4))?,
-        previous_close: four_bytes(text_at(words, 5))?,
-        bank_closing: four_bytes(text_at(words, 6))?,
+        kind: letter(kind)?,
+        method: one_byte(method)?,
+        shortfall: letter(shortfall)?,
+        unit: two_bytes(unit)?,
+        previous_close: four_bytes(close)?,
+        bank_closing: four_bytes(bank)?,
     })
 }
 
@@ -33,12 +32,12 @@ fn terms(words: &[&[u8]]) -> Option<Terms>
 fn buyer(words: &[&[u8]]) -> Option<Buyer>
     ensures { result ≡ buyer_said (told words.now) }
 {
-    if count(words) != 3 {
+    let [_, account, lots] = words else {
         return None;
-    }
+    };
     Some(Buyer {
-        account: four_bytes(text_at(words, 1))?,
-        lots: four_bytes(text_at(words, 2))?,
+        account: four_bytes(account)?,
+        lots: four_bytes(lots)?,
     })
 }
 
@@ -46,12 +45,12 @@ fn buyer(words: &[&[u8]]) -> Option<Buyer>
 fn draw(words: &[&[u8]]) -> Option<DrawNumbers>
     ensures { result ≡ draw_said (told words.now) }
 {
-    if count(words) != 3 {
+    let [_, stride, shift] = words else {
         return None;
-    }
+    };
     Some(DrawNumbers {
-        stride: two_bytes(text_at(words, 1))?,
-        shift: two_bytes(text_at(words, 2))?,
+        stride: two_bytes(stride)?,
+        shift: two_bytes(shift)?,
     })
 }
 
@@ -59,25 +58,25 @@ fn draw(words: &[&[u8]]) -> Option<DrawNumbers>
 fn amount(words: &[&[u8]]) -> Option<u32>
     ensures { result ≡ amount_said (told words.now) }
 {
-    if count(words) != 2 {
+    let [_, amount] = words else {
         return None;
-    }
-    four_bytes(text_at(words, 1))
+    };
+    four_bytes(amount)
 }
 
 // entry TIME MEMBER ACCOUNT PRICE LOTS
 fn entry(words: &[&[u8]]) -> Option<Entry>
     ensures { result ≡ entry_said (told words.now) }
 {
-    if count(words) != 6 {
+    let [_, time, member, account, price, lots] = words else {
         return None;
-    }
+    };
     Some(Entry {
-        time: four_bytes(text_at(words, 1))?,
-        member: code(text_at(words, 2))?,
-        account: four_bytes(text_at(words, 3))?,
-        price: four_bytes(text_at(words, 4))?,
-        lots: four_bytes(text_at(words, 5))?,
+        time: four_bytes(time)?,
+        member: code(member)?,
+        account: four_bytes(account)?,
+        price: four_bytes(price)?,
+        lots: four_bytes(lots)?,
     })
 }
 
@@ -85,15 +84,15 @@ fn entry(words: &[&[u8]]) -> Option<Entry>
 fn change(words: &[&[u8]]) -> Option<Change>
     ensures { result ≡ change_said (told words.now) }
 {
-    if count(words) != 6 {
+    let [_, time, member, number, price, lots] = words else {
         return None;
-    }
+    };
     Some(Change {
-        time: four_bytes(text_at(words, 1))?,
-        member: code(text_at(words, 2))?,
-        number: two_bytes(text_at(words, 3))?,
-        price: four_bytes(text_at(words, 4))?,
-        lots: four_bytes(text_at(words, 5))?,
+        time: four_bytes(time)?,
+        member: code(member)?,
+        number: two_bytes(number)?,
+        price: four_bytes(price)?,
+        lots: four_bytes(lots)?,
     })
 }
 
@@ -101,13 +100,13 @@ fn change(words: &[&[u8]]) -> Option<Change>
 fn cancellation(words: &[&[u8]]) -> Option<Cancellation>
     ensures { result ≡ cancellation_said (told words.now) }
 {
-    if count(words) != 4 {
+    let [_, time, member, number] = words else {
         return None;
-    }
+    };
     Some(Cancellation {
-        time: four_bytes(text_at(words, 1))?,
-        member: code(text_at(words, 2))?,
-        number: two_bytes(text_at(words, 3))?,
+        time: four_bytes(time)?,
+        member: code(member)?,
+        number: two_bytes(number)?,
     })
 }
 
@@ -115,7 +114,9 @@ fn cancellation(words: &[&[u8]]) -> Option<Cancellation>
 pub fn is_passed_over(words: &[&[u8]]) -> bool
     ensures { result ≡ passed_over (told words.now) }
 {
-    let first = text_at(words, 0);
+    let [first, ..] = words else {
+        return true;
+    };
     first.is_empty() || first[0] == b'#'
 }
 
@@ -123,14 +124,17 @@ pub fn is_passed_over(words: &[&[u8]]) -> bool
 pub fn message(words: &[&[u8]]) -> Option<Message>
     ensures { result ≡ message_said (told words.now) }
 {
-    match Verb::named(text_at(words, 0))? {
-        Verb::Terms => Some(Message::Terms(terms(words)?)),
-        Verb::Buyer => Some(Message::Buyer(buyer(words)?)),
-        Verb::Draw => Some(Message::Draw(draw(words)?)),
-        Verb::Open => Some(Message::Open(amount(words)?)),
-        Verb::Entry => Some(Message::Call(Call::Enter(entry(words)?))),
-        Verb::Change => Some(Message::Call(Call::Change(change(words)?))),
-        Verb::Cancel => Some(Message::Call(Call::Cancel(cancellation(words)?))),
-        Verb::Close => Some(Message::Close(amount(words)?)),
+    let [first, ..] = words else {
+        return None;
+    };
+    match named(first)? {
+        Tag::Terms => Some(Message::Terms(terms(words)?)),
+        Tag::Buyer => Some(Message::Buyer(buyer(words)?)),
+        Tag::Draw => Some(Message::Draw(draw(words)?)),
+        Tag::Open => Some(Message::Open(amount(words)?)),
+        Tag::Entry => Some(Message::Call(Call::Enter(entry(words)?))),
+        Tag::Change => Some(Message::Call(Call::Change(change(words)?))),
+        Tag::Cancel => Some(Message::Call(Call::Cancel(cancellation(words)?))),
+        Tag::Close => Some(Message::Close(amount(words)?)),
     }
 }

@@ -52,7 +52,7 @@ fn main(rt: HostRuntime) -> ExitCode {
     match run(&rt) {
         Ok(()) => ExitCode::SUCCESS,
         Err(failure) => {
-            let _told = failure.told(&rt);
+            let _ = eprintln!(rt; "{failure}");
             ExitCode::FAILURE
         }
     }

@@ -6,10 +6,10 @@ ghost use Rattle.encode.specs.Numbers.{letter_in, with_digit, number_in};
 pub fn letter(word: &[u8]) -> Option<u8>
     ensures { result ≡ letter_in word.now }
 {
-    if word.len() != 1 {
+    let [letter] = word else {
         return None;
-    }
-    Some(word[0])
+    };
+    Some(*letter)
 }
 
 // Answers the number with one decimal digit more, if it is one and the number does not pass the most.
@@ -17,11 +17,11 @@ fn with_digit(number: u32, digit: u8, most: u32) -> Option<u32>
     ensures more { result ≡ with_digit most number digit }
     ensures bound { IfSome result (λ n. n ≤ most) }
 {
-    if digit < b'0' || digit > b'9' {
+    if !digit.is_ascii_digit() {
         return None;
     }
-    let next = number as u64 * 10 + (digit - b'0') as u64;
-    if next > most as u64 {
+    let next = u64::from(number) * 10 + u64::from(digit - b'0');
+    if next > u64::from(most) {
         return None;
     }
     Some(next as u32)
@@ -42,20 +42,21 @@ fn decimal(word: &[u8], most: u32) -> Option<u32>
     Some(number)
 }
 
+// Three functions of one line, which differ in a type and its most: one over `N: TryFrom<u32>` promises what its bound does and no
+// number, so each field of each message would show its own anew (tried: `search` gives up at its limits there).
+
 // Answers the number of the word, if one byte can say it.
 pub fn one_byte(word: &[u8]) -> Option<u8>
     ensures { result ≡ number_in 255 word.now }
 {
-    let number = decimal(word, 255)?;
-    Some(number as u8)
+    Some(decimal(word, 255)? as u8)
 }
 
 // Answers the number of the word, if two bytes can say it.
 pub fn two_bytes(word: &[u8]) -> Option<u16>
     ensures { result ≡ number_in 65535 word.now }
 {
-    let number = decimal(word, 65_535)?;
-    Some(number as u16)
+    Some(decimal(word, 65_535)? as u16)
 }
 
 // Answers the number of the word, if four bytes can say it.

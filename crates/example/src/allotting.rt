@@ -1,18 +1,10 @@
 // Runs of whole tenders by the library's one call, and what they allot.
-use super::script::NO_OFFER;
-use allotment::{Allotted, BuyerRow};
+use allotment::{Allotted, BuyerRow, Sides};
 use book::{Call, Offer};
 use sharing::StrideDraw;
 use stages::{Buyer, Open, Terms, file};
 use std::io;
-use tender_run::{Outcome, run_by_kind};
-
-// What an unused row holds.
-const NO_ROW: BuyerRow = BuyerRow {
-    lots: 0,
-    payment: 0,
-    billed: false,
-};
+use tender_run::{Outcome, Session, run_by_kind};
 
 // Files a tender and opens it, if neither is refused.
 fn opened(terms: &Terms, buyers: &[Buyer], base: u32) -> Option<Open> {
@@ -91,26 +83,22 @@ pub(crate) fn show_run(
     let Some(tender) = opened(terms, buyers, base) else {
         return println!(rt; "the tender is refused");
     };
-    let Some(sellers) = draw() else {
+    let Some(draw) = draw() else {
         return println!(rt; "the draw is refused");
     };
-    let Some(shared_among) = draw() else {
-        return println!(rt; "the draw is refused");
+    let draws = Sides {
+        sellers: draw,
+        buyers: draw,
     };
-    let mut records = [NO_OFFER; 512];
-    let mut fills = [0; 512];
-    let mut rows = [NO_ROW; 8];
-    match run_by_kind(
-        tender,
-        &mut records,
+    let session = Session {
         calls,
         buyers,
         closing,
-        &mut fills,
-        &mut rows,
-        sellers,
-        shared_among,
-    ) {
+    };
+    let mut records = [Offer::default(); 512];
+    let mut fills = [0; 512];
+    let mut rows = [BuyerRow::default(); 8];
+    match run_by_kind(tender, &mut records, &session, &mut fills, &mut rows, draws) {
         Ok(outcome) => show_outcome(rt, outcome, &records, &fills, &rows, buyers.len()),
         Err(refused) => println!(rt; "the run is refused: {}", refused.0.number()),
     }

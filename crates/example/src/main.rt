@@ -6,9 +6,9 @@ mod script;
 mod show;
 
 use allotting::show_run;
-use book::{Book, Call};
-use script::{NO_OFFER, calls, financing_calls, general_calls};
-use show::{show_answer, show_call, show_member_offer, show_offers};
+use book::{Book, Call, Offer};
+use script::{calls, financing_calls, general_calls};
+use show::{Answer, Told, show_member_offer, show_offers};
 use stages::{Buyer, Filed, Open, Terms, file};
 use std::io;
 
@@ -16,8 +16,7 @@ use std::io;
 fn open(rt: &HostRuntime, filed: Filed) -> io::Result<Option<Open>> {
     let filed = match filed.open(4_601) {
         Ok(open) => return Ok(Some(open)),
-        Err(refused) => {
-            let (refusal, filed) = refused;
+        Err((refusal, filed)) => {
             println!(rt; "open at 4601: refused {}", refusal.number())?;
             filed
         }
@@ -27,8 +26,8 @@ fn open(rt: &HostRuntime, filed: Filed) -> io::Result<Option<Open>> {
             println!(rt; "open at {}", open.base_price())?;
             Ok(Some(open))
         }
-        Err(refused) => {
-            println!(rt; "open at 4200: refused {}", refused.0.number())?;
+        Err((refusal, _)) => {
+            println!(rt; "open at 4200: refused {}", refusal.number())?;
             Ok(None)
         }
     }
@@ -42,10 +41,9 @@ fn trade(
     calls: &[Call],
     buyers: &[Buyer],
 ) -> io::Result<()> {
-    for call in calls {
-        show_call(rt, *call)?;
-        let answer = book.apply(tender, *call, buyers);
-        show_answer(rt, answer)?;
+    for &call in calls {
+        let answer = book.apply(tender, call, buyers);
+        println!(rt; "{}: {}", Told(call), Answer(answer))?;
     }
     Ok(())
 }
@@ -54,21 +52,20 @@ fn trade(
 fn close(rt: &HostRuntime, tender: Open) -> io::Result<()> {
     let tender = match tender.close(57_599) {
         Ok(_) => return Ok(()),
-        Err(refused) => {
-            let (refusal, tender) = refused;
+        Err((refusal, tender)) => {
             println!(rt; "close at 57599: refused {}", refusal.number())?;
             tender
         }
     };
     match tender.close(57_600) {
         Ok(closed) => println!(rt; "closed, base price {}", closed.base_price()),
-        Err(refused) => println!(rt; "close at 57600: refused {}", refused.0.number()),
+        Err((refusal, _)) => println!(rt; "close at 57600: refused {}", refusal.number()),
     }
 }
 
 // Runs an open tender: its calls, what a member finds, the standing offers, and the closing.
 fn run(rt: &HostRuntime, tender: Open, buyers: &[Buyer]) -> io::Result<()> {
-    let mut records = [NO_OFFER; 512];
+    let mut records = [Offer::default(); 512];
     if let Err(refusal) = Book::check(&records) {
         return println!(rt; "records: refused {}", refusal.number());
     }

@@ -1,14 +1,5 @@
 // The calls that are made.
-use book::{Call, Cancellation, Change, Entry, Offer};
-
-// What an unused record holds.
-pub const NO_OFFER: Offer = Offer {
-    number: 0,
-    member: [0; 4],
-    account: 0,
-    price: 0,
-    lots: 0,
-};
+use book::{Call, Cancellation, Change, Entry};
 
 // Makes an entry.
 fn enter(time: u32, member: [u8; 4], account: u32, price: u32, lots: u32) -> Call {

@@ -1,55 +1,71 @@
 // What is printed.
 use book::{Book, Call};
 use stages::Refusal;
-use std::io;
+use std::{fmt, io};
 
-// Prints a member code as its four letters.
-fn show_member(rt: &HostRuntime, member: [u8; 4]) -> io::Result<()> {
-    for letter in member {
-        print!(rt; "{}", letter as char)?;
-    }
-    Ok(())
-}
+// A member code, by its four letters.
+#[derive(Clone, Copy)]
+struct Code([u8; 4]);
 
-// Prints a call, to be followed by its answer.
-pub(crate) fn show_call(rt: &HostRuntime, call: Call) -> io::Result<()> {
-    match call {
-        Call::Enter(e) => {
-            print!(rt; "{} ", e.time)?;
-            show_member(rt, e.member)?;
-            print!(rt; " enters {} lots at {}: ", e.lots, e.price)
+impl fmt::Display for Code {
+    fn fmt<W: fmt::Write>(&self, f: &mut fmt::Formatter<W>) -> fmt::Result {
+        for letter in self.0 {
+            f.write_char(char::from(letter))?;
         }
-        Call::Change(c) => {
-            print!(rt; "{} ", c.time)?;
-            show_member(rt, c.member)?;
-            print!(rt; " changes {} to {} lots at {}: ", c.number, c.lots, c.price)
-        }
-        Call::Cancel(c) => {
-            print!(rt; "{} ", c.time)?;
-            show_member(rt, c.member)?;
-            print!(rt; " cancels {}: ", c.number)
-        }
+        Ok(())
     }
 }
 
-// Prints the number that an entry is given, that a call is done, or the number under which it is refused.
-pub(crate) fn show_answer(
-    rt: &HostRuntime,
-    answer: Result<Option<u16>, Refusal>,
-) -> io::Result<()> {
-    match answer {
-        Ok(Some(number)) => println!(rt; "number {number}"),
-        Ok(None) => println!(rt; "done"),
-        Err(refusal) => println!(rt; "refused {}", refusal.number()),
+// A call, as it is told.
+#[derive(Clone, Copy)]
+pub(crate) struct Told(pub(crate) Call);
+
+impl fmt::Display for Told {
+    fn fmt<W: fmt::Write>(&self, f: &mut fmt::Formatter<W>) -> fmt::Result {
+        match self.0 {
+            Call::Enter(e) => {
+                let member = Code(e.member);
+                write!(
+                    f,
+                    "{} {member} enters {} lots at {}",
+                    e.time, e.lots, e.price
+                )
+            }
+            Call::Change(c) => {
+                let member = Code(c.member);
+                write!(
+                    f,
+                    "{} {member} changes {} to {} lots at {}",
+                    c.time, c.number, c.lots, c.price
+                )
+            }
+            Call::Cancel(c) => {
+                let member = Code(c.member);
+                write!(f, "{} {member} cancels {}", c.time, c.number)
+            }
+        }
+    }
+}
+
+// The answer to a call: the number that an entry is given, that a call is done, or the number under which it is refused.
+#[derive(Clone, Copy)]
+pub(crate) struct Answer(pub(crate) Result<Option<u16>, Refusal>);
+
+impl fmt::Display for Answer {
+    fn fmt<W: fmt::Write>(&self, f: &mut fmt::Formatter<W>) -> fmt::Result {
+        match self.0 {
+            Ok(Some(number)) => write!(f, "number {number}"),
+            Ok(None) => f.write_str("done"),
+            Err(refusal) => write!(f, "refused {}", refusal.number()),
+        }
     }
 }
 
 // Finds an offer of the member, and prints its number and its sheet.
 pub(crate) fn show_member_offer(rt: &HostRuntime, book: &Book, member: [u8; 4]) -> io::Result<()> {
-    show_member(rt, member)?;
     match book.find(member) {
-        Some(number) => println!(rt; " has offer {number}")?,
-        None => println!(rt; " has no offer")?,
+        Some(number) => println!(rt; "{} has offer {number}", Code(member))?,
+        None => println!(rt; "{} has no offer", Code(member))?,
     }
     if let Some(sheet) = book.sheet(member) {
         println!(rt;
@@ -68,13 +84,11 @@ pub(crate) fn show_offers(rt: &HostRuntime, book: &Book) -> io::Result<()> {
         book.supply(),
         book.accepted()
     )?;
-    for i in 0..book.len() {
-        if let Some(offer) = book.offer(i) {
-            println!(rt;
-                "number {}: {} lots at {}",
-                offer.number, offer.lots, offer.price
-            )?;
-        }
+    for offer in book.offers() {
+        println!(rt;
+            "number {}: {} lots at {}",
+            offer.number, offer.lots, offer.price
+        )?;
     }
     Ok(())
 }

@@ -1,16 +1,38 @@
 // Why a file gives no report: a fault of a lower layer travels inside that of the upper one.
-ghost use Rattle.std.specs.Prelude.{◌≡◌};
+ghost use Rattle.std.specs.Prelude.{◌≡◌, ℕ, Some};
 ghost use Rattle.faults.specs.declared.fault.OrderFault.TheVariants.{Frame as Framed};
 ghost use Rattle.faults.specs.declared.fault.ProgramFault.TheVariants.{Order as Ordered};
 ghost use Rattle.faults.specs.Faults.{layer_of, number_of, place_of, order_layer, order_number, order_place};
+ghost use Rattle.faults.specs.Words.{fault_words};
 
 use super::layer::Layer;
 use frames::FrameFault;
 use sharing::Refusal as SharingRefusal;
 use stages::Refusal;
+use std::fmt;
+
+// What is told of a fault: its layer, its number and its place.
+#[derive(Clone, Copy)]
+struct Told {
+    layer: Layer,
+    number: u8,
+    place: usize,
+}
+
+impl Told {
+    fn new(layer: Layer, number: u8, place: usize) -> Told
+        ensures { result ≡ record { layer = layer; number = number; place = place } }
+    {
+        Told {
+            layer,
+            number,
+            place,
+        }
+    }
+}
 
 // Why the messages of a file cannot be read in their order.
-#[derive(Clone, Copy)]
+#[derive(Clone, Copy, PartialEq, Eq, Debug)]
 pub enum OrderFault {
     // a frame cannot be read
     Frame(FrameFault),
@@ -21,40 +43,44 @@ pub enum OrderFault {
 }
 
 impl OrderFault {
+    fn told(&self) -> Told
+        ensures layer { result.layer ≡ order_layer self.now }
+        ensures number { result.number ≡ order_number self.now }
+        ensures place { result.place ≡ order_place self.now }
+    {
+        match self {
+            OrderFault::Frame(fault) => Told::new(Layer::Frame, fault.number(), fault.place()),
+            OrderFault::OutOfOrder(place) | OrderFault::Ended(place) => Told::new(
+                Layer::Order,
+                23,
+                *place,
+            ),
+        }
+    }
+
     // Answers the layer in which the fault was found.
     pub fn layer(&self) -> Layer
         ensures { result ≡ order_layer self.now }
     {
-        match self {
-            OrderFault::Frame(_) => Layer::Frame,
-            OrderFault::OutOfOrder(_) => Layer::Order,
-            OrderFault::Ended(_) => Layer::Order,
-        }
+        self.told().layer
     }
 
     // Answers the number of the fault.
     pub fn number(&self) -> u8
         ensures { result ≡ order_number self.now }
     {
-        match self {
-            OrderFault::Frame(fault) => fault.number(),
-            OrderFault::OutOfOrder(_) => 23,
-            OrderFault::Ended(_) => 23,
-        }
+        self.told().number
     }
 
     // Answers the place of the fault.
     pub fn place(&self) -> usize
         ensures { result ≡ order_place self.now }
     {
-        match self {
-            OrderFault::Frame(fault) => fault.place(),
-            OrderFault::OutOfOrder(place) => *place,
-            OrderFault::Ended(place) => *place,
-        }
+        self.told().place
     }
 }
 
+// Written out, as below, since the clauses of what reads a file cite `from_gives`, which no derive gives.
 impl From<FrameFault> for OrderFault {
     ghost from_gives = { λ e r. r ≡ Framed e };
 
@@ -64,7 +90,7 @@ impl From<FrameFault> for OrderFault {
 }
 
 // Why a run has no report.
-#[derive(Clone, Copy)]
+#[derive(Clone, Copy, PartialEq, Eq, Debug)]
 pub enum ProgramFault {
     // the messages cannot be read in their order
     Order(OrderFault),
@@ -75,37 +101,37 @@ pub enum ProgramFault {
 }
 
 impl ProgramFault {
+    fn told(&self) -> Told
+        ensures layer { result.layer ≡ layer_of self.now }
+        ensures number { result.number ≡ number_of self.now }
+        ensures place { result.place ≡ place_of self.now }
+    {
+        match self {
+            ProgramFault::Order(fault) => fault.told(),
+            ProgramFault::Rule(refusal, place) => Told::new(Layer::Rule, refusal.number(), *place),
+            ProgramFault::Draw(refusal, place) => Told::new(Layer::Rule, refusal.number(), *place),
+        }
+    }
+
     // Answers the layer in which the fault was found.
     pub fn layer(&self) -> Layer
         ensures { result ≡ layer_of self.now }
     {
-        match self {
-            ProgramFault::Order(fault) => fault.layer(),
-            ProgramFault::Rule(_, _) => Layer::Rule,
-            ProgramFault::Draw(_, _) => Layer::Rule,
-        }
+        self.told().layer
     }
 
     // Answers the number of the fault.
     pub fn number(&self) -> u8
         ensures { result ≡ number_of self.now }
     {
-        match self {
-            ProgramFault::Order(fault) => fault.number(),
-            ProgramFault::Rule(refusal, _) => refusal.number(),
-            ProgramFault::Draw(refusal, _) => refusal.number(),
-        }
+        self.told().number
     }
 
     // Answers the place of the fault.
     pub fn place(&self) -> usize
         ensures { result ≡ place_of self.now }
     {
-        match self {
-            ProgramFault::Order(fault) => fault.place(),
-            ProgramFault::Rule(_, place) => *place,
-            ProgramFault::Draw(_, place) => *place,
-        }
+        self.told().place
     }
 }
 
@@ -114,5 +140,15 @@ impl From<OrderFault> for ProgramFault {
 
     fn from(fault: OrderFault) -> ProgramFault {
         ProgramFault::Order(fault)
+    }
+}
+
+// Writes the fault in words: its layer, its number and its place.
+impl fmt::Display for ProgramFault {
+    ghost output = { λ fault. Some (fault_words fault) };
+
+    fn fmt<W: fmt::Write>(&self, f: &mut fmt::Formatter<W>) -> fmt::Result {
+        let told = self.told();
+        write!(f, "fault {} {} at {}", told.layer, told.number, told.place)
     }
 }

@@ -24,8 +24,7 @@ impl FrameFault {
         ensures { result ≡ number_of self.now }
     {
         match self {
-            FrameFault::CutShort(_) => 20,
-            FrameFault::TooLong => 20,
+            FrameFault::CutShort(_) | FrameFault::TooLong => 20,
             FrameFault::UnknownTag(_) => 21,
             FrameFault::WrongLength(_) => 22,
         }
@@ -36,10 +35,10 @@ impl FrameFault {
         ensures { result ≡ place_of self.now }
     {
         match self {
-            FrameFault::CutShort(place) => *place,
+            FrameFault::CutShort(place)
+            | FrameFault::UnknownTag(place)
+            | FrameFault::WrongLength(place) => *place,
             FrameFault::TooLong => MOST_BYTES,
-            FrameFault::UnknownTag(place) => *place,
-            FrameFault::WrongLength(place) => *place,
         }
     }
 }

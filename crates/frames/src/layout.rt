@@ -2,8 +2,8 @@
 ghost use Rattle.std.specs.Prelude.{◌≡◌};
 ghost use Rattle.frames.specs.Layouts.{length_in};
 
-// The length that the values of a tag have.
-#[derive(Clone, Copy)]
+// The length that the values of a tag have. The tags are the caller's, so a tag is a byte of the format here and no kind.
+#[derive(Clone, Copy, PartialEq, Eq, Debug)]
 pub struct Layout {
     pub tag: u8,
     pub length: u16,
@@ -13,10 +13,6 @@ pub struct Layout {
 pub fn length_in(layouts: &[Layout], tag: u8) -> Option<u16>
     ensures { result ≡ length_in layouts.now tag }
 {
-    for layout in layouts {
-        if layout.tag == tag {
-            return Some(layout.length);
-        }
-    }
-    None
+    let layout = layouts.iter().find(|layout| layout.tag == tag)?;
+    Some(layout.length)
 }

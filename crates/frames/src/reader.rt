@@ -6,7 +6,7 @@ use super::fault::{FrameFault, MOST_BYTES};
 use super::layout::{Layout, length_in};
 
 // A frame of a file: its tag, the place of its first byte, and its value as a part of the file.
-#[derive(Clone, Copy)]
+#[derive(Clone, Copy, PartialEq, Eq, Debug)]
 pub struct Frame<'a> {
     pub tag: u8,
     pub place: usize,
@@ -25,20 +25,18 @@ pub struct Reader<'a> {
 fn judge(layouts: &[Layout], rest: &[u8], place: usize) -> Result<usize, FrameFault>
     ensures { Judged layouts.now rest.now place result }
 {
-    if rest.len() < 3 {
+    let [tag, high, low, value @ ..] = rest else {
         return Err(FrameFault::CutShort(place));
-    }
-    let length = u16::from_be_bytes([rest[1], rest[2]]);
-    if rest.len() - 3 < length as usize {
-        return Err(FrameFault::CutShort(place));
-    }
-    let Some(known) = length_in(layouts, rest[0]) else {
-        return Err(FrameFault::UnknownTag(place));
     };
+    let length = u16::from_be_bytes([*high, *low]);
+    if value.len() < usize::from(length) {
+        return Err(FrameFault::CutShort(place));
+    }
+    let known = length_in(layouts, *tag).ok_or(FrameFault::UnknownTag(place))?;
     if length != known {
         return Err(FrameFault::WrongLength(place));
     }
-    Ok(length as usize)
+    Ok(usize::from(length))
 }
 
 impl<'a> Reader<'a> {
@@ -72,9 +70,11 @@ impl<'a> Reader<'a> {
             return Ok(None);
         }
         let length = judge(layouts, &file[place..], place)?;
-        let tag = file[place];
-        let value = &file[place + 3..place + 3 + length];
         self.at = place + 3 + length;
-        Ok(Some(Frame { tag, place, value }))
+        Ok(Some(Frame {
+            tag: file[place],
+            place,
+            value: &file[place + 3..place + 3 + length],
+        }))
     }
 }

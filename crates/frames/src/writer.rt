@@ -14,6 +14,7 @@ pub enum WriteFault {
     Memory,
 }
 
+// Written out, since the clauses of what writes read `from_gives`, which no derive gives.
 impl From<AllocError> for WriteFault {
     ghost from_gives = { λ _ r. r ≡ Memory };
 
@@ -26,12 +27,12 @@ impl From<AllocError> for WriteFault {
 pub fn write_frame(tag: u8, value: &[u8], out: &mut Vec<u8>) -> Result<(), WriteFault>
     ensures { Written tag value.now out.old.items result out.new.items }
 {
-    if value.len() > 65_535 {
+    let Ok(length) = u16::try_from(value.len()) else {
         return Err(WriteFault::TooLong);
-    }
-    let length = (value.len() as u16).to_be_bytes();
+    };
+    let [high, low] = length.to_be_bytes();
     out.reserve(value.len() + 3)?;
-    out.extend_from_slice(&[tag, length[0], length[1]])?;
+    out.extend_from_slice(&[tag, high, low])?;
     out.extend_from_slice(value)?;
     Ok(())
 }

@@ -1,12 +1,8 @@
 use book::{Cancellation, Change, Entry};
-use messages::MessageReader;
+use messages::{MessageReader, Tag, UnknownTag};
 use stages::{Buyer, Terms};
 use std::test::Fail;
-use values::{
-    DrawNumbers, amount_bytes, amount_in, buyer_bytes, buyer_in, cancellation_bytes,
-    cancellation_in, change_bytes, change_in, draw_bytes, draw_in, entry_bytes, entry_in,
-    terms_bytes, terms_in,
-};
+use values::{DrawNumbers, Value};
 
 // Answers the number of the first frame's fault, 0 where it has none.
 fn code(file: &[u8]) -> u8 {
@@ -54,18 +50,27 @@ fn places(rt: HostRuntime) {
 }
 
 #[test]
+fn tags(rt: HostRuntime) {
+    assert_eq!(rt; Tag::try_from(1), Ok(Tag::Terms));
+    assert_eq!(rt; Tag::try_from(8), Ok(Tag::Draw));
+    assert_eq!(rt; Tag::try_from(9), Err(UnknownTag(9)));
+    assert_eq!(rt; Tag::Close.byte(), 7);
+}
+
+#[test]
 fn terms(rt: HostRuntime) -> Result<(), Fail> {
-    let bytes = terms_bytes(&Terms {
+    let bytes = Terms {
         kind: b'G',
         method: 1,
         shortfall: b'T',
         unit: 1_000,
         previous_close: 4_000,
         bank_closing: 55_800,
-    });
+    }
+    .to_bytes();
     assert_eq!(rt; bytes[3], 3);
     assert_eq!(rt; bytes[4], 232);
-    let Some(terms) = terms_in(&bytes) else {
+    let Some(terms) = Terms::decode(&bytes) else {
         return Err(Fail::new("terms"));
     };
     assert_eq!(rt; terms.unit, 1_000);
@@ -75,51 +80,57 @@ fn terms(rt: HostRuntime) -> Result<(), Fail> {
 
 #[test]
 fn small_values(rt: HostRuntime) -> Result<(), Fail> {
-    let Some(buyer) = buyer_in(&buyer_bytes(&Buyer {
+    let buyer = Buyer {
         account: 7,
         lots: 10,
-    })) else {
+    };
+    let Some(buyer) = Buyer::decode(&buyer.to_bytes()) else {
         return Err(Fail::new("buyer"));
     };
     assert_eq!(rt; buyer.lots, 10);
-    let Some(draw) = draw_in(&draw_bytes(&DrawNumbers {
+    let draw = DrawNumbers {
         stride: 3,
         shift: 510,
-    })) else {
+    };
+    let Some(draw) = DrawNumbers::decode(&draw.to_bytes()) else {
         return Err(Fail::new("draw"));
     };
     assert_eq!(rt; draw.shift, 510);
-    assert_eq!(rt; amount_in(&amount_bytes(57_600)), Some(57_600));
+    assert_eq!(rt; u32::decode(&57_600u32.to_bytes()), Some(57_600));
+    assert_eq!(rt; u32::decode(&[0, 225, 0]), None);
     Ok(())
 }
 
 #[test]
 fn calls(rt: HostRuntime) -> Result<(), Fail> {
-    let Some(entry) = entry_in(&entry_bytes(&Entry {
+    let entry = Entry {
         time: 54_000,
         member: *b"AAAA",
         account: 20,
         price: 4_000,
         lots: 7,
-    })) else {
+    };
+    let Some(entry) = Entry::decode(&entry.to_bytes()) else {
         return Err(Fail::new("entry"));
     };
     assert_eq!(rt; entry.account, 20);
-    let Some(change) = change_in(&change_bytes(&Change {
+    let change = Change {
         time: 54_000,
         member: *b"AAAA",
         number: 1,
         price: 4_100,
         lots: 4,
-    })) else {
+    };
+    let Some(change) = Change::decode(&change.to_bytes()) else {
         return Err(Fail::new("change"));
     };
     assert_eq!(rt; change.price, 4_100);
-    let Some(cancellation) = cancellation_in(&cancellation_bytes(&Cancellation {
+    let cancellation = Cancellation {
         time: 54_000,
         member: *b"AAAA",
         number: 1,
-    })) else {
+    };
+    let Some(cancellation) = Cancellation::decode(&cancellation.to_bytes()) else {
         return Err(Fail::new("cancellation"));
     };
     assert_eq!(rt; cancellation.number, 1);

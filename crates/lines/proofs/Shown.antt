@@ -1,35 +1,39 @@
 -- Characters as the bytes that show them.
-use Rattle.std.proofs.Common.{◌≡◌, ℕ, ◌<◌, true, false, ◌&&◌, List, [], ◌∷◌, ◌++◌, length, get_or, codes, sym, refl, ◌∙◌, arith, lit<}
+use Rattle.std.proofs.Common.{◌≡◌, ℕ, ◌/◌, ◌%◌, ◌^◌, ◌-◌, ◌<◌, zero, suc, true, false, ◌&&◌, List, [], ◌∷◌, ◌++◌, length, get_or, codes, Some, option_map, ap, sym, refl, ◌∙◌, arith}
 use lib.Utf8.{encode}
-use Rattle.std.proofs.ByRecursion.{IsAscii-from_all}
 use Rattle.std.proofs.lemmas.Bool.{and_parts, cond-false, cond-true}
+use Rattle.std.proofs.lemmas.Fmt.{hex_byte}
 use Rattle.std.proofs.lemmas.Str.{encode_ascii}
 use Rattle.std.proofs.lemmas.Bool.Decides.{nat_tests}
-use Rattle.stages.specs.declared.kind.Kind.{Kind}
-use Rattle.stages.specs.declared.kind.Kind.TheVariants.{General, Financing}
-use Rattle.stages.specs.declared.shortfall.Shortfall.{Shortfall}
-use Rattle.stages.specs.declared.shortfall.Shortfall.TheVariants.{Take, Void}
-use Rattle.stages.specs.Kinds.{row_of, shortfall_letter}
-use Rattle.lines.specs.Parts.{all_hex, all_printable, digit, is_printable, member_text}
+use Rattle.std.specs.Fmt.{digit_glyph, digits, digits_output, format_spec, padded_integral, radix_prefix, shown_prefix, styled_digits_output}
+use Rattle.lines.specs.Parts.{all_hex, all_printable, digit, hex_of, is_printable, member_text}
 
-pub kind_letter : (k : Kind) → encode (row_of k).letter ≡ (row_of k).letter ∷ []
-unfolding encode
-kind_letter General = refl
-kind_letter Financing = refl
+-- the library's digit is the one of the table
+glyph : (n : ℕ) → n < 16 → digit_glyph false n ≡ digit n
+glyph zero lt = refl
+glyph (suc zero) lt = refl
+glyph (suc (suc zero)) lt = refl
+glyph (suc (suc (suc zero))) lt = refl
+glyph (suc (suc (suc (suc zero)))) lt = refl
+glyph (suc (suc (suc (suc (suc zero))))) lt = refl
+glyph (suc (suc (suc (suc (suc (suc zero)))))) lt = refl
+glyph (suc (suc (suc (suc (suc (suc (suc zero))))))) lt = refl
+glyph (suc (suc (suc (suc (suc (suc (suc (suc zero)))))))) lt = refl
+glyph (suc (suc (suc (suc (suc (suc (suc (suc (suc zero))))))))) lt = refl
+glyph (suc (suc (suc (suc (suc (suc (suc (suc (suc (suc zero)))))))))) lt = refl
+glyph (suc (suc (suc (suc (suc (suc (suc (suc (suc (suc (suc zero))))))))))) lt = refl
+glyph (suc (suc (suc (suc (suc (suc (suc (suc (suc (suc (suc (suc zero)))))))))))) lt = refl
+glyph (suc (suc (suc (suc (suc (suc (suc (suc (suc (suc (suc (suc (suc zero))))))))))))) lt = refl
+glyph (suc (suc (suc (suc (suc (suc (suc (suc (suc (suc (suc (suc (suc (suc zero)))))))))))))) lt = refl
+glyph (suc (suc (suc (suc (suc (suc (suc (suc (suc (suc (suc (suc (suc (suc (suc zero))))))))))))))) lt = refl
+glyph (suc (suc (suc (suc (suc (suc (suc (suc (suc (suc (suc (suc (suc (suc (suc (suc n)))))))))))))))) lt = absurd (omega (arith, lt))
 
-pub shortfall_letter_shown : (s : Shortfall) → encode (shortfall_letter s) ≡ shortfall_letter s ∷ []
-unfolding encode
-shortfall_letter_shown Take = refl
-shortfall_letter_shown Void = refl
-
-digit_ascii : (n : ℕ) → digit n < 128
-digit_ascii n =
-    IsAscii-from_all (codes "0123456789abcdef")
-    (lit< tt, (lit< tt, (lit< tt, (lit< tt, (lit< tt, (lit< tt, (lit< tt, (lit< tt, (lit< tt, (lit< tt, (lit< tt, (lit< tt, (lit< tt, (lit< tt, (lit< tt, (lit< tt, tt)))))))))))))))) n
-
--- a digit is shown as itself
-pub digit_shown : (n : ℕ) → encode (digit n) ≡ digit n ∷ []
-digit_shown n = encode_ascii (digit n) (digit_ascii n)
+-- a byte is written as two hexadecimal digits
+pub hex_shown : (b : ℕ) (d : _) (s : _) → b < 256 → digits_output d ≡ Some (digits 16 false b) → s ≡ format_spec 32 0 4 2 (2 ^ 64 - 1) →
+    styled_digits_output d s ≡ Some (hex_of b)
+hex_shown b d s lt has is =
+    (λ i. option_map (padded_integral (is i) false (shown_prefix (is i) (radix_prefix d.base))) (has i))
+    ∙ ap Some (hex_byte false b lt ∙ (λ k. glyph (b / 16) (omega (arith, lt)) k ∷ glyph (b % 16) (omega arith) k ∷ []))
 
 printable_shown : (b : ℕ) → is_printable b ≡ true → encode b ≡ b ∷ []
 printable_shown b e = encode_ascii b (grind (arith, nat_tests))
@@ -52,11 +56,11 @@ text_shown (a ∷ b ∷ c ∷ d ∷ []) is e =
 text_shown (a ∷ b ∷ c ∷ d ∷ e ∷ m) is p = absurd (omega arith)
 
 -- else its bytes are shown by their digits
-pub hex_shown :
+pub digits_shown :
     (m : List ℕ) → length m ≡ 4 → all_printable m ≡ false → codes "#" ++ all_hex (get_or m 0 0 ∷ get_or m 1 0 ∷ get_or m 2 0 ∷ get_or m 3 0 ∷ []) ≡ member_text m
-hex_shown [] is e = absurd (omega arith)
-hex_shown (a ∷ []) is e = absurd (omega arith)
-hex_shown (a ∷ b ∷ []) is e = absurd (omega arith)
-hex_shown (a ∷ b ∷ c ∷ []) is e = absurd (omega arith)
-hex_shown (a ∷ b ∷ c ∷ d ∷ []) is e = sym (cond-false (all_printable (a ∷ b ∷ c ∷ d ∷ [])) _ _ e)
-hex_shown (a ∷ b ∷ c ∷ d ∷ e ∷ m) is p = absurd (omega arith)
+digits_shown [] is e = absurd (omega arith)
+digits_shown (a ∷ []) is e = absurd (omega arith)
+digits_shown (a ∷ b ∷ []) is e = absurd (omega arith)
+digits_shown (a ∷ b ∷ c ∷ []) is e = absurd (omega arith)
+digits_shown (a ∷ b ∷ c ∷ d ∷ []) is e = sym (cond-false (all_printable (a ∷ b ∷ c ∷ d ∷ [])) _ _ e)
+digits_shown (a ∷ b ∷ c ∷ d ∷ e ∷ m) is p = absurd (omega arith)

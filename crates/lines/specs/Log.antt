@@ -10,10 +10,8 @@ use Rattle.stages.specs.Kinds.{method_number, row_of, shortfall_letter}
 use Rattle.allotment.specs.declared.tender.Allotted.{Allotted}
 use Rattle.tender_run.specs.declared.running.Outcome.{Outcome}
 use Rattle.faults.specs.declared.fault.ProgramFault.{ProgramFault}
-use Rattle.faults.specs.declared.layer.Layer.{Layer}
-use Rattle.faults.specs.declared.layer.Layer.TheVariants.{Frame, Order, Rule}
 use Rattle.replay.specs.declared.report.Report.{Report}
-use Rattle.faults.specs.Faults.{layer_of, number_of, place_of}
+use Rattle.faults.specs.Words.{fault_words}
 use Rattle.lines.specs.Parts.{price_text}
 
 -- KIND METHOD SHORTFALL
@@ -45,12 +43,6 @@ BookALine =
     (record { allotted = record { due = 10; price = Some 4100; receipts = 41000000; fee = 20500 }; accepted = 5; refused = 1; standing = standing })
     ≡ codes "G 1 T due 10 price 4100 total 41000000 fee 20500 accepted 5 refused 1\n"
 
--- the word of a layer
-abbrev pub word_of : Layer → List ℕ
-word_of Frame = codes "frame"
-word_of Order = codes "order"
-word_of Rule = codes "rule"
-
 -- fault LAYER NUMBER at PLACE
 abbrev pub fault_line_of : ProgramFault → List ℕ
-fault_line_of e = codes "fault " ++ (word_of (layer_of e) ++ (codes " " ++ (decimal (number_of e) ++ (codes " at " ++ (decimal (place_of e) ++ codes "\n")))))
+fault_line_of e = fault_words e ++ codes "\n"

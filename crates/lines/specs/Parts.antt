@@ -1,5 +1,6 @@
 -- The parts of a line: a marginal price, and a member code.
-use Rattle.std.specs.Prelude.{ℕ, ◌/◌, ◌%◌, Bool, true, cond, ◌&&◌, List, [], ◌∷◌, ◌++◌, Some, None, codes, decimal, Option, nat_le, slice_index}
+use Rattle.std.specs.Prelude.{ℕ, ◌/◌, ◌%◌, Bool, cond, ◌&&◌, List, [], ◌∷◌, ◌++◌, Some, None, codes, decimal, Option, nat_le, slice_index}
+use Rattle.std.specs.List.{list_all}
 
 -- a price, or `-` where there is none
 abbrev pub price_text : Option ℕ → List ℕ
@@ -11,8 +12,7 @@ abbrev pub is_printable : ℕ → Bool
 is_printable byte = nat_le 33 byte && nat_le byte 126
 
 abbrev pub all_printable : List ℕ → Bool
-all_printable [] = true
-all_printable (byte ∷ bytes) = is_printable byte && all_printable bytes
+all_printable = list_all is_printable
 
 -- a hexadecimal digit, lower case
 abbrev pub digit : ℕ → ℕ

@@ -1,5 +1,5 @@
 -- The statement of a report.
-use Rattle.std.specs.Prelude.{ℕ, cond, List, [], ◌∷◌, ◌++◌, take, codes, decimal, slice_index}
+use Rattle.std.specs.Prelude.{ℕ, cond, List, [], ◌∷◌, ◌++◌, codes, decimal, slice_index}
 use Rattle.stages.specs.declared.terms.Buyer.{Buyer}
 use Rattle.book.specs.declared.offer.Offer.{Offer}
 use Rattle.allotment.specs.declared.pay.BuyerRow.{BuyerRow}
@@ -33,5 +33,4 @@ buyer_lines (b ∷ buyers) (row ∷ rows) = buyer_line b row ++ buyer_lines buye
 -- The log line, a line for each standing offer in order, and one for each buyer as filed.
 abbrev pub statement_of : Report → List ℕ
 statement_of r =
-    line_of r ++ (offer_lines r.fills (take r.outcome.standing r.offers)
-    ++ buyer_lines (take r.particulars.buyers r.buyers) (take r.particulars.buyers r.rows))
+    line_of r ++ (offer_lines r.fills r.offers.items ++ buyer_lines r.buyers.items r.rows)

@@ -8,8 +8,10 @@ mod figures;
 mod log;
 mod member;
 mod statements;
+mod telling;
 
-pub use answers::{Answer, answer_line, answer_statement};
+pub use answers::{Answer, answer_file};
 pub use fault::fault_line;
 pub use log::line;
 pub use statements::statement;
+pub use telling::{LogLine, Statement, Telling};

@@ -1,6 +1,6 @@
 // The log line of a run.
 ghost use Rattle.std.specs.Prelude.{◌≡◌, IfOk, string_bytes};
-ghost use Rattle.lines.specs.Log.{line_of};
+ghost use Rattle.lines.specs.Log.{BookALine, line_of};
 
 use super::choices::Choices;
 use super::figures::Figures;
@@ -9,13 +9,10 @@ use std::alloc::{AllocError, Global};
 
 // Writes the log line of the report: kind, method, shortfall, due, marginal price, receipts, fee, accepted and refused calls.
 pub fn line(heap: Global, report: &Report) -> Result<String, AllocError>
-    ensures { IfOk result (λ s. string_bytes s ≡ line_of report.now) }
+    ensures line { IfOk result (λ s. string_bytes s ≡ line_of report.now) }
+    ensures worked { BookALine }
 {
-    let choices = Choices {
-        kind: report.particulars.kind,
-        method: report.particulars.method,
-        shortfall: report.particulars.shortfall,
-    };
+    let choices = Choices(report.particulars);
     let figures = Figures(report.outcome.allotted);
     let accepted = report.outcome.accepted;
     let refused = report.outcome.refused;

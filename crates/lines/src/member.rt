@@ -1,29 +1,14 @@
 // A member code as text.
 ghost use Rattle.std.specs.Prelude.{◌≡◌, Some};
-ghost use Rattle.lines.specs.Parts.{all_printable, hex_of, is_printable, member_text};
+ghost use Rattle.lines.specs.Parts.{all_printable, hex_of, member_text};
 
 use std::fmt;
 
-// The digits of a hexadecimal number.
-const DIGITS: [u8; 16] = *b"0123456789abcdef";
-
-// Answers whether the byte is a printable character of ASCII, and no space.
-fn is_printable(byte: u8) -> bool
-    ensures { result ≡ is_printable byte }
-{
-    33 <= byte && byte <= 126
-}
-
-// Answers whether each byte of the code can be printed.
+// Answers whether each byte of the code is a printable character of ASCII, and no space.
 fn is_text(code: &[u8]) -> bool
     ensures { result ≡ all_printable code.now }
 {
-    for byte in code {
-        if !is_printable(*byte) {
-            return false;
-        }
-    }
-    true
+    code.iter().all(|byte| byte.is_ascii_graphic())
 }
 
 // A byte, shown as two hexadecimal digits.
@@ -34,9 +19,8 @@ impl fmt::Display for Hex {
     ghost output = { λ h. Some (hex_of h.0) };
 
     fn fmt<W: fmt::Write>(&self, f: &mut fmt::Formatter<W>) -> fmt::Result {
-        let high = char::from(DIGITS[usize::from(self.0 / 16)]);
-        let low = char::from(DIGITS[usize::from(self.0 % 16)]);
-        write!(f, "{high}{low}")
+        let byte = self.0;
+        write!(f, "{byte:02x}")
     }
 }
 

@@ -1,5 +1,5 @@
 // The statement of a run: its log line, a line for each standing offer, and one for each buyer.
-ghost use Rattle.std.specs.Prelude.{◌≡◌, ◌++◌, length, take, IfOk, string_bytes, OnOk, slice_index};
+ghost use Rattle.std.specs.Prelude.{◌≡◌, ◌++◌, IfOk, string_bytes, OnOk, slice_index};
 ghost use Rattle.lines.specs.Statement.{buyer_line, buyer_lines, offer_line, offer_lines, statement_of};
 
 use super::log::line;
@@ -14,10 +14,7 @@ use std::alloc::{AllocError, Global};
 fn fill_of(fills: &[u32], number: u16) -> u32
     ensures { result ≡ slice_index fills.now number }
 {
-    match fills.get(usize::from(number)) {
-        Some(fill) => *fill,
-        None => 0,
-    }
+    fills.get(usize::from(number)).copied().unwrap_or(0)
 }
 
 // Writes the line of an offer.
@@ -64,44 +61,28 @@ fn buyer_line(heap: Global, buyer: Buyer, row: BuyerRow) -> Result<String, Alloc
     format!(in heap; "buyer {account} lots {lots} gets {gets} pays {payment}{mark}\n")
 }
 
-// Adds a line for each buyer.
+// Adds a line for each buyer that there is a row for.
 fn push_buyers(
     text: &mut String,
     heap: Global,
     buyers: &[Buyer],
     rows: &[BuyerRow],
 ) -> Result<(), AllocError>
-    requires { length rows.now ≡ length buyers.now }
     ensures { OnOk result (string_bytes text.new ≡ string_bytes text.old ++ buyer_lines buyers.now rows.now) }
 {
-    for i in 0..buyers.len() {
-        let line = buyer_line(heap, buyers[i], rows[i])?;
+    for (buyer, row) in buyers.iter().zip(rows) {
+        let line = buyer_line(heap, *buyer, *row)?;
         text.push_str(line.as_str())?;
     }
     Ok(())
-}
-
-// Answers the first so many of the offers, or all where there are fewer.
-fn first(offers: &[Offer], count: usize) -> &[Offer]
-    ensures { result.now ≡ take count offers.now }
-{
-    let count = count.min(offers.len());
-    &offers[..count]
 }
 
 // Writes the statement of the report.
 pub fn statement(heap: Global, report: &Report) -> Result<String, AllocError>
     ensures { IfOk result (λ s. string_bytes s ≡ statement_of report.now) }
 {
-    let standing = first(&report.offers, report.outcome.standing);
-    let buyers = report.particulars.buyers;
     let mut text = line(heap, report)?;
-    push_offers(&mut text, heap, standing, &report.fills)?;
-    push_buyers(
-        &mut text,
-        heap,
-        &report.buyers[..buyers],
-        &report.rows[..buyers],
-    )?;
+    push_offers(&mut text, heap, report.offers.as_slice(), &report.fills)?;
+    push_buyers(&mut text, heap, report.buyers.as_slice(), &report.rows)?;
     Ok(text)
 }

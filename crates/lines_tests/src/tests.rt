@@ -1,4 +1,4 @@
-use lines::{Answer, answer_line, answer_statement};
+use lines::{Answer, LogLine, Statement, answer_file};
 use std::process::Abort;
 use std::test::Fail;
 
@@ -27,13 +27,13 @@ const NO_UNIT: [u8; 34] = *b"\x01\x00\x0dG\x01T\x00\x00\x00\x00\x0f\xa0\x00\x00\
 
 // Checks the text of an answer, and whether it tells of a fault.
 fn check_answer(rt: &impl Abort, answer: &Answer, text: &str, fault: bool) {
-    assert_eq!(rt; answer.text.as_str(), text);
-    assert_eq!(rt; answer.fault, fault);
+    assert_eq!(rt; answer.text(), text);
+    assert_eq!(rt; matches!(answer, Answer::Fault(_)), fault);
 }
 
 #[test]
 fn nothing_due_has_no_price(rt: HostRuntime) -> Result<(), Fail> {
-    let answer = answer_line(rt.alloc(), &VOID)?;
+    let answer = answer_file::<LogLine>(rt.alloc(), &VOID)?;
     check_answer(
         &rt,
         &answer,
@@ -45,7 +45,7 @@ fn nothing_due_has_no_price(rt: HostRuntime) -> Result<(), Fail> {
 
 #[test]
 fn a_code_that_cannot_be_printed_is_told_by_digits(rt: HostRuntime) -> Result<(), Fail> {
-    let answer = answer_statement(rt.alloc(), &VOID)?;
+    let answer = answer_file::<Statement>(rt.alloc(), &VOID)?;
     check_answer(
         &rt,
         &answer,
@@ -57,7 +57,7 @@ fn a_code_that_cannot_be_printed_is_told_by_digits(rt: HostRuntime) -> Result<()
 
 #[test]
 fn buyers_of_a_financing_tender_are_not_billed(rt: HostRuntime) -> Result<(), Fail> {
-    let answer = answer_statement(rt.alloc(), &FINANCING)?;
+    let answer = answer_file::<Statement>(rt.alloc(), &FINANCING)?;
     check_answer(
         &rt,
         &answer,
@@ -69,13 +69,13 @@ fn buyers_of_a_financing_tender_are_not_billed(rt: HostRuntime) -> Result<(), Fa
 
 #[test]
 fn a_fault_of_each_layer(rt: HostRuntime) -> Result<(), Fail> {
-    let unknown = answer_line(rt.alloc(), b"\x09\x00\x00")?;
+    let unknown = answer_file::<LogLine>(rt.alloc(), b"\x09\x00\x00")?;
     check_answer(&rt, &unknown, "fault frame 21 at 0\n", true);
-    let cut = answer_line(rt.alloc(), &VOID[..20])?;
+    let cut = answer_file::<LogLine>(rt.alloc(), &VOID[..20])?;
     check_answer(&rt, &cut, "fault frame 20 at 16\n", true);
-    let ended = answer_statement(rt.alloc(), &VOID[..16])?;
+    let ended = answer_file::<Statement>(rt.alloc(), &VOID[..16])?;
     check_answer(&rt, &ended, "fault order 23 at 16\n", true);
-    let refused = answer_statement(rt.alloc(), &NO_UNIT)?;
+    let refused = answer_file::<Statement>(rt.alloc(), &NO_UNIT)?;
     check_answer(&rt, &refused, "fault rule 1 at 27\n", true);
     Ok(())
 }

@@ -1,3 +1,3 @@
-pub mod Wrote
 pub mod Unique
 pub mod Placing
+pub mod Untold

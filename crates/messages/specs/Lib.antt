@@ -1,2 +1,3 @@
+pub mod Tags
 pub mod Messages
 pub mod Reading

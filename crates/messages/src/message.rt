@@ -3,13 +3,13 @@ ghost use Rattle.std.specs.Prelude.{◌≡◌};
 ghost use Rattle.messages.specs.Messages.{tag_of, message_of};
 ghost use Rattle.messages.specs.Reading.{Says};
 
-use book::Call;
+use super::tag::Tag;
+use book::{Call, Cancellation, Change, Entry};
 use frames::Layout;
 use stages::{Buyer, Terms};
-use values::{
-    DrawNumbers, amount_in, buyer_in, cancellation_in, change_in, draw_in, entry_in, terms_in,
-};
+use values::{DrawNumbers, Value};
 
+// A message of a tender file.
 #[derive(Clone, Copy)]
 pub enum Message {
     Terms(Terms),
@@ -24,14 +24,38 @@ pub enum Message {
 
 // The tags of a tender file, and the length of each one's values.
 pub static LAYOUTS: [Layout; 8] = [
-    Layout { tag: 1, length: 13 },
-    Layout { tag: 2, length: 8 },
-    Layout { tag: 3, length: 4 },
-    Layout { tag: 4, length: 20 },
-    Layout { tag: 5, length: 18 },
-    Layout { tag: 6, length: 10 },
-    Layout { tag: 7, length: 4 },
-    Layout { tag: 8, length: 4 },
+    Layout {
+        tag: Tag::Terms as u8,
+        length: 13,
+    },
+    Layout {
+        tag: Tag::Buyer as u8,
+        length: 8,
+    },
+    Layout {
+        tag: Tag::Open as u8,
+        length: 4,
+    },
+    Layout {
+        tag: Tag::Entry as u8,
+        length: 20,
+    },
+    Layout {
+        tag: Tag::Change as u8,
+        length: 18,
+    },
+    Layout {
+        tag: Tag::Cancel as u8,
+        length: 10,
+    },
+    Layout {
+        tag: Tag::Close as u8,
+        length: 4,
+    },
+    Layout {
+        tag: Tag::Draw as u8,
+        length: 4,
+    },
 ];
 
 impl Message {
@@ -39,16 +63,17 @@ impl Message {
     pub fn tag(&self) -> u8
         ensures { result ≡ tag_of self.now }
     {
-        match self {
-            Message::Terms(_) => 1,
-            Message::Buyer(_) => 2,
-            Message::Open(_) => 3,
-            Message::Call(Call::Enter(_)) => 4,
-            Message::Call(Call::Change(_)) => 5,
-            Message::Call(Call::Cancel(_)) => 6,
-            Message::Close(_) => 7,
-            Message::Draw(_) => 8,
-        }
+        let tag = match self {
+            Message::Terms(_) => Tag::Terms,
+            Message::Buyer(_) => Tag::Buyer,
+            Message::Open(_) => Tag::Open,
+            Message::Call(Call::Enter(_)) => Tag::Entry,
+            Message::Call(Call::Change(_)) => Tag::Change,
+            Message::Call(Call::Cancel(_)) => Tag::Cancel,
+            Message::Close(_) => Tag::Close,
+            Message::Draw(_) => Tag::Draw,
+        };
+        tag.byte()
     }
 }
 
@@ -57,15 +82,14 @@ pub fn message_in(tag: u8, value: &[u8]) -> Option<Message>
     ensures reads { result ≡ message_of tag value.now }
     ensures back { Says tag value.now result }
 {
-    match tag {
-        1 => Some(Message::Terms(terms_in(value)?)),
-        2 => Some(Message::Buyer(buyer_in(value)?)),
-        3 => Some(Message::Open(amount_in(value)?)),
-        4 => Some(Message::Call(Call::Enter(entry_in(value)?))),
-        5 => Some(Message::Call(Call::Change(change_in(value)?))),
-        6 => Some(Message::Call(Call::Cancel(cancellation_in(value)?))),
-        7 => Some(Message::Close(amount_in(value)?)),
-        8 => Some(Message::Draw(draw_in(value)?)),
-        _ => None,
+    match Tag::try_from(tag).ok()? {
+        Tag::Terms => Some(Message::Terms(Terms::decode(value)?)),
+        Tag::Buyer => Some(Message::Buyer(Buyer::decode(value)?)),
+        Tag::Open => Some(Message::Open(u32::decode(value)?)),
+        Tag::Entry => Some(Message::Call(Call::Enter(Entry::decode(value)?))),
+        Tag::Change => Some(Message::Call(Call::Change(Change::decode(value)?))),
+        Tag::Cancel => Some(Message::Call(Call::Cancel(Cancellation::decode(value)?))),
+        Tag::Close => Some(Message::Close(u32::decode(value)?)),
+        Tag::Draw => Some(Message::Draw(DrawNumbers::decode(value)?)),
     }
 }

@@ -3,7 +3,7 @@ ghost use Rattle.std.specs.Prelude.{◌≡◌, OnErr};
 ghost use Rattle.messages.specs.Reading.{file_of, next_place, OpenedAt, NextMessage};
 
 use super::message::{LAYOUTS, Message, message_in};
-use frames::{FrameFault, Reader};
+use frames::{Frame, FrameFault, Reader};
 
 // A message, and the place of its frame's first byte.
 #[derive(Clone, Copy)]
@@ -40,13 +40,10 @@ impl<'a> MessageReader<'a> {
         ensures file { file_of self.new ≡ file_of self.old }
         ensures unchanged { OnErr result (self.new ≡ self.old) }
     {
-        let Some(frame) = self.reader.next(&LAYOUTS)? else {
+        let Some(Frame { tag, place, value }) = self.reader.next(&LAYOUTS)? else {
             return Ok(None);
         };
-        let place = frame.place;
-        let Some(message) = message_in(frame.tag, frame.value) else {
-            return Err(FrameFault::UnknownTag(place));
-        };
+        let message = message_in(tag, value).ok_or(FrameFault::UnknownTag(place))?;
         Ok(Some(Placed { place, message }))
     }
 }

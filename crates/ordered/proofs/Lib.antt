@@ -1,8 +1,6 @@
-pub mod Closing
 pub mod Counts
 pub mod Fronts
 pub mod Keeps
-pub mod Opening
 pub mod Places
-pub mod Placing
+pub mod Shifts
 pub mod Strict

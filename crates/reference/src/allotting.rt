@@ -1,14 +1,18 @@
 // The allotment of a closed tender.
-ghost use Rattle.std.specs.Prelude.{◌≡◌, ◌/◌, ◌≤◌, IfOk};
+ghost use Rattle.std.specs.Prelude.{◌≡◌, ◌/◌, ◌≤◌, IfOk, IfErr};
+ghost use Rattle.reference.specs.Register.{number_of};
 
-use super::data::{Buyer, Claim, Terms};
+use super::data::{Buyer, Claim, Kind, Method, Places, Shortfall, Terms};
 use super::filing::demand;
+use super::lists::total;
+use super::refusal::Refusal;
 use super::sharing::{Rule, shares};
-use super::trading::{Offer, as_filed};
+use super::trading::{Filed, Offer};
 use std::alloc::{AllocError, Global};
+use std::cmp::Ordering;
 
 // What a buyer gets and pays.
-#[derive(Clone, Copy)]
+#[derive(Clone, Copy, PartialEq, Eq, Debug, Default)]
 pub struct Row {
     pub lots: u32,
     pub payment: u64,
@@ -28,144 +32,121 @@ pub struct Allotment {
 }
 
 // Judges the places and the buyers handed over to an allotment.
-pub fn allotment_code(
-    filed: &[Buyer],
-    handed: &[Buyer],
-    records: usize,
-    fills: usize,
-    rows: usize,
-) -> u8
-    ensures { result ≤ 15 }
+pub fn judge_allotment(filed: &[Buyer], handed: &[Buyer], places: Places) -> Result<(), Refusal>
+    ensures { IfErr result (λ refusal. number_of refusal ≤ 15) }
 {
-    if records != 512 || fills != 512 || rows != 8 {
-        return 14;
+    let whole = Places {
+        records: 512,
+        fills: 512,
+        rows: 8,
+    };
+    if places != whole {
+        return Err(Refusal::Place);
     }
-    if !as_filed(filed.len(), demand(filed), handed) {
-        return 15;
+    if !Filed::new(filed).admits(handed) {
+        return Err(Refusal::OtherBuyers);
     }
-    0
+    Ok(())
+}
+
+// What is offered, in the order of the book, and what is due of it.
+#[derive(Clone, Copy)]
+struct Market<'a> {
+    offers: &'a [Offer],
+    due: u64,
 }
 
 // The lots of the offers at or below the price.
 fn supply_up_to(offers: &[Offer], price: u32) -> u64 {
-    let mut supply = 0u64;
-    for offer in offers {
-        if offer.price <= price {
-            supply = supply.saturating_add(offer.lots as u64);
-        }
-    }
-    supply
+    total(
+        offers,
+        |offer| if offer.price <= price { offer.lots } else { 0 },
+    )
 }
 
 // What is due of the demand.
 fn due(terms: &Terms, offers: &[Offer], demand: u64) -> u64 {
     let supply = supply_up_to(offers, u32::MAX);
     if supply >= demand {
-        demand
-    } else if terms.shortfall == b'T' {
-        supply
-    } else {
-        0
+        return demand;
+    }
+    match terms.shortfall() {
+        Shortfall::Taken => supply,
+        Shortfall::Void => 0,
     }
 }
 
-// The lowest offered price up to which the offers come to what is due.
-fn marginal_price(offers: &[Offer], due: u64) -> Option<u32> {
-    if due == 0 {
-        return None;
-    }
-    let mut lowest = None;
-    for offer in offers {
-        if supply_up_to(offers, offer.price) >= due {
-            lowest = match lowest {
-                Some(price) if price <= offer.price => lowest,
-                _ => Some(offer.price),
-            };
+impl Market<'_> {
+    // The lowest offered price up to which the offers come to what is due.
+    fn marginal_price(&self) -> Option<u32> {
+        if self.due == 0 {
+            return None;
         }
+        self.offers
+            .iter()
+            .map(|offer| offer.price)
+            .filter(|price| supply_up_to(self.offers, *price) >= self.due)
+            .min()
     }
-    lowest
-}
 
-// What the offers at the price get, in their order, once those below it are filled.
-fn tied_shares(
-    heap: Global,
-    terms: &Terms,
-    ranks: &[u16],
-    offers: &[Offer],
-    due: u64,
-    price: u32,
-) -> Result<Vec<u32>, AllocError> {
-    let mut claims = Vec::new(heap);
-    let mut left = due;
-    for offer in offers {
-        if offer.price < price {
-            left = left.saturating_sub(offer.lots as u64);
-        } else if offer.price == price {
+    // What the offers at the price get, in their order, once those below it are filled.
+    fn tied_shares(
+        &self,
+        heap: Global,
+        rule: Rule,
+        ranks: &[u16],
+        price: u32,
+    ) -> Result<Vec<u32>, AllocError> {
+        let mut claims = Vec::new(heap);
+        for offer in self.offers.iter().filter(|offer| offer.price == price) {
             claims.push(Claim {
                 number: u32::try_from(offer.number).unwrap_or(0),
                 lots: offer.lots,
             })?;
         }
+        let below = total(
+            self.offers,
+            |offer| if offer.price < price { offer.lots } else { 0 },
+        );
+        let left = u32::try_from(self.due.saturating_sub(below)).unwrap_or(0);
+        shares(heap, rule, ranks, claims.as_slice(), left)
     }
-    let rule = if terms.kind == b'G' {
-        Rule::Proportional
-    } else {
-        Rule::Time
-    };
-    let left = u32::try_from(left).unwrap_or(0);
-    shares(heap, rule, ranks, claims.as_slice(), left)
-}
 
-// What each offer gets, in their order: those below the price all, those at it their shares, those above it nothing.
-fn fills_at(
-    heap: Global,
-    offers: &[Offer],
-    tied: &[u32],
-    price: u32,
-) -> Result<Vec<u32>, AllocError> {
-    let mut fills = Vec::new(heap);
-    let mut served = 0usize;
-    for offer in offers {
-        let mut fill = 0;
-        if offer.price < price {
-            fill = offer.lots;
+    // What each offer gets, in their order: those below the price all, those at it their shares, those above it nothing.
+    fn fills_at(&self, heap: Global, tied: &[u32], price: u32) -> Result<Vec<u32>, AllocError> {
+        let mut fills = Vec::new(heap);
+        let mut tied = tied.iter();
+        for offer in self.offers {
+            fills.push(match offer.price.cmp(&price) {
+                Ordering::Less => offer.lots,
+                Ordering::Equal => tied.next().copied().unwrap_or(0),
+                Ordering::Greater => 0,
+            })?;
         }
-        if offer.price == price {
-            fill = tied.get(served).copied().unwrap_or(0);
-            served = served.saturating_add(1);
-        }
-        fills.push(fill)?;
+        Ok(fills)
     }
-    Ok(fills)
-}
 
-// What each offer gets, in their order; nothing without a price.
-fn fills(
-    heap: Global,
-    terms: &Terms,
-    ranks: &[u16],
-    offers: &[Offer],
-    due: u64,
-    price: Option<u32>,
-) -> Result<Vec<u32>, AllocError> {
-    match price {
-        Some(price) => {
-            let tied = tied_shares(heap, terms, ranks, offers, due, price)?;
-            fills_at(heap, offers, tied.as_slice(), price)
-        }
-        None => vec![in heap; 0; offers.len()],
+    // What each offer gets, in their order; nothing without a price.
+    fn fills(
+        &self,
+        heap: Global,
+        rule: Rule,
+        ranks: &[u16],
+        price: Option<u32>,
+    ) -> Result<Vec<u32>, AllocError> {
+        let Some(price) = price else {
+            return vec![in heap; 0; self.offers.len()];
+        };
+        let tied = self.tied_shares(heap, rule, ranks, price)?;
+        self.fills_at(heap, tied.as_slice(), price)
     }
 }
 
-// What the sellers receive, lot by lot.
-fn receipts(terms: &Terms, offers: &[Offer], fills: &[u32], price: Option<u32>) -> u64 {
+// What the sellers receive, lot by lot: each at the price of all, where there is one, or at its own.
+fn receipts(unit: u32, offers: &[Offer], fills: &[u32], price: Option<u32>) -> u64 {
     let mut receipts = 0u64;
     for (offer, fill) in offers.iter().zip(fills) {
-        let paid = match (terms.method, price) {
-            (1, Some(price)) => price,
-            _ => offer.price,
-        };
-        let lot = terms.unit as u64 * paid as u64;
+        let lot = u64::from(unit) * u64::from(price.unwrap_or(offer.price));
         for _ in 0..*fill {
             receipts = receipts.saturating_add(lot);
         }
@@ -178,7 +159,7 @@ fn part(receipts: u64, lots: u64, due: u64) -> u64 {
     if due == 0 {
         return 0;
     }
-    let part = receipts as u128 * lots as u128 / due as u128;
+    let part = u128::from(receipts) * u128::from(lots) / u128::from(due);
     u64::try_from(part).unwrap_or(0)
 }
 
@@ -210,11 +191,11 @@ fn rows(
 ) -> Result<Vec<Row>, AllocError> {
     let mut rows = Vec::new(heap);
     let mut above = 0u64;
-    for lots in lots {
-        let with = above.saturating_add(*lots as u64);
+    for &lots in lots {
+        let with = above.saturating_add(u64::from(lots));
         let payment = part(receipts, with, due).saturating_sub(part(receipts, above, due));
         rows.push(Row {
-            lots: *lots,
+            lots,
             payment,
             billed,
         })?;
@@ -234,11 +215,20 @@ pub fn allot(
     ensures { IfOk result (λ a. a.fee ≡ a.receipts / 2000) }
 {
     let due = due(terms, offers, demand(buyers));
-    let price = marginal_price(offers, due);
-    let fills = fills(heap, terms, ranks, offers, due, price)?;
-    let receipts = receipts(terms, offers, fills.as_slice(), price);
+    let market = Market { offers, due };
+    let price = market.marginal_price();
+    let (rule, billed) = match terms.kind() {
+        Kind::General => (Rule::Proportional, true),
+        Kind::Financing => (Rule::Time, false),
+    };
+    let fills = market.fills(heap, rule, ranks, price)?;
+    let paid_by_all = match terms.method() {
+        Method::OnePrice => price,
+        Method::AsOffered => None,
+    };
+    let receipts = receipts(terms.unit, offers, fills.as_slice(), paid_by_all);
     let lots = buyers_lots(heap, ranks, buyers, due)?;
-    let rows = rows(heap, terms.kind == b'G', lots.as_slice(), due, receipts)?;
+    let rows = rows(heap, billed, lots.as_slice(), due, receipts)?;
     Ok(Allotment {
         due,
         price,

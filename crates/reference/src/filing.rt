@@ -1,110 +1,103 @@
-// Filing, opening and closing: each answers the number of the first rule that is broken, or 0.
-ghost use Rattle.std.specs.Prelude.{◌≤◌};
+// Filing, opening and closing: each answers the first rule that is broken.
+ghost use Rattle.std.specs.Prelude.{◌≡◌, ◌≤◌, IfErr};
+ghost use Rattle.reference.specs.Register.{number_of};
+ghost use Rattle.reference.specs.declared.refusal.Refusal.TheVariants.{Term};
 
-use super::data::{Buyer, Terms};
+use super::data::{Buyer, Kind, Method, Shortfall, Terms};
+use super::lists::{total, twice};
+use super::refusal::Refusal;
+use std::ops::RangeInclusive;
 
 // Whether kind, method and shortfall are known, and go together.
-fn choices_fit(terms: &Terms) -> bool {
-    match (terms.kind, terms.method, terms.shortfall) {
-        (b'G', 1, b'T') => true,
-        (b'G', 1, b'V') => true,
-        (b'G', 2, b'T') => true,
-        (b'G', 2, b'V') => true,
-        (b'F', 2, b'T') => true,
-        _ => false,
+fn judge_choices(terms: &Terms) -> Result<(), Refusal>
+    ensures { IfErr result (λ refusal. refusal ≡ Term) }
+{
+    let kind = Kind::try_from(terms.kind)?;
+    let method = Method::try_from(terms.method)?;
+    let shortfall = Shortfall::try_from(terms.shortfall)?;
+    match (kind, method, shortfall) {
+        (Kind::General, _, _) => Ok(()),
+        (Kind::Financing, Method::AsOffered, Shortfall::Taken) => Ok(()),
+        _ => Err(Refusal::Term),
     }
 }
 
 // Whether the numbers of the terms are in their ranges.
 fn ranges_fit(terms: &Terms) -> bool {
-    let unit = terms.unit >= 1 && terms.unit <= 1_000;
-    let close = terms.previous_close >= 1 && terms.previous_close <= 800_000;
-    let bank = terms.bank_closing >= 55_800 && terms.bank_closing <= 86_399;
-    unit && close && bank
-}
-
-// Whether two buyers at different places have one account.
-fn account_twice(buyers: &[Buyer]) -> bool {
-    for (i, one) in buyers.iter().enumerate() {
-        for (j, other) in buyers.iter().enumerate() {
-            if i != j && one.account == other.account {
-                return true;
-            }
-        }
-    }
-    false
+    (1..=1_000).contains(&terms.unit)
+        && (1..=800_000).contains(&terms.previous_close)
+        && (55_800..=86_399).contains(&terms.bank_closing)
 }
 
 // Whether a tender of the kind may have the buyers.
-fn buyers_fit(kind: u8, buyers: &[Buyer]) -> bool {
-    let most = if kind == b'G' { 1 } else { 8 };
-    buyers.len() >= 1 && buyers.len() <= most && !account_twice(buyers)
+fn buyers_fit(kind: Kind, buyers: &[Buyer]) -> bool {
+    let most = match kind {
+        Kind::General => 1,
+        Kind::Financing => 8,
+    };
+    !buyers.is_empty() && buyers.len() <= most && !twice(buyers, |buyer| buyer.account)
 }
 
 // What the buyers ask for together.
 pub(crate) fn demand(buyers: &[Buyer]) -> u64 {
-    let mut total = 0u64;
-    for buyer in buyers {
-        total = total.saturating_add(buyer.lots as u64);
-    }
-    total
+    total(buyers, |buyer| buyer.lots)
 }
 
 // Whether each buyer's lots, and those of all, are in their range.
 fn lots_fit(buyers: &[Buyer]) -> bool {
-    for buyer in buyers {
-        if buyer.lots < 1 || buyer.lots > 1_000_000 {
-            return false;
-        }
-    }
-    demand(buyers) <= 1_000_000
+    buyers
+        .iter()
+        .all(|buyer| (1..=1_000_000).contains(&buyer.lots))
+        && demand(buyers) <= 1_000_000
 }
 
 // Judges a filing.
-pub fn filing_code(terms: &Terms, buyers: &[Buyer]) -> u8
-    ensures { result ≤ 3 }
+pub fn judge_filing(terms: &Terms, buyers: &[Buyer]) -> Result<(), Refusal>
+    ensures { IfErr result (λ refusal. number_of refusal ≤ 3) }
 {
-    if !choices_fit(terms) || !ranges_fit(terms) {
-        return 1;
+    judge_choices(terms)?;
+    if !ranges_fit(terms) {
+        return Err(Refusal::Term);
     }
-    if !buyers_fit(terms.kind, buyers) {
-        return 2;
+    if !buyers_fit(terms.kind(), buyers) {
+        return Err(Refusal::Accounts);
     }
     if !lots_fit(buyers) {
-        return 3;
+        return Err(Refusal::Demand);
     }
-    0
+    Ok(())
 }
 
 // Judges an opening: the base price in hundredths of the previous close.
-pub fn opening_code(terms: &Terms, base: u32) -> u8
-    ensures { result ≤ 4 }
+pub fn judge_opening(terms: &Terms, base: u32) -> Result<(), Refusal>
+    ensures { IfErr result (λ refusal. number_of refusal ≤ 4) }
 {
-    let least = if terms.kind == b'G' { 85u64 } else { 107 };
-    let close = terms.previous_close as u64;
-    let price = 100 * base as u64;
+    let least = match terms.kind() {
+        Kind::General => 85u64,
+        Kind::Financing => 107,
+    };
+    let close = u64::from(terms.previous_close);
+    let price = 100 * u64::from(base);
     if price < least * close || price > 115 * close {
-        return 4;
+        return Err(Refusal::BasePrice);
     }
-    0
+    Ok(())
 }
 
-// The first and the last second at which calls are taken.
-pub(crate) fn window(kind: u8) -> (u32, u32) {
-    if kind == b'G' {
-        (54_000, 57_599)
-    } else {
-        (52_200, 53_999)
+// The seconds at which calls are taken.
+pub(crate) fn window(kind: Kind) -> RangeInclusive<u32> {
+    match kind {
+        Kind::General => 54_000..=57_599,
+        Kind::Financing => 52_200..=53_999,
     }
 }
 
-// Judges a closing.
-pub fn closing_code(kind: u8, time: u32) -> u8
-    ensures { result ≤ 13 }
+// Judges the closing of a tender of the kind with the letter.
+pub fn judge_closing(kind: u8, time: u32) -> Result<(), Refusal>
+    ensures { IfErr result (λ refusal. number_of refusal ≤ 13) }
 {
-    let (_first, last) = window(kind);
-    if time <= last || time > 86_399 {
-        return 13;
+    if time <= *window(Kind::of(kind)).end() || time > 86_399 {
+        return Err(Refusal::Closing);
     }
-    0
+    Ok(())
 }

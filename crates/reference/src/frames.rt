@@ -1,72 +1,83 @@
 // The frames of a file: a tag, a length of two bytes, and so many bytes.
-use std::alloc::{AllocError, Global};
+ghost use Rattle.std.specs.Prelude.{◌<◌, length, IfSome};
 
-// A frame, with a copy of its value.
-#[derive(Drop)]
-pub(crate) struct Frame {
-    pub(crate) tag: u8,
-    pub(crate) place: usize,
-    pub(crate) value: Vec<u8>,
+use super::refusal::Refusal;
+
+// What a frame tells.
+#[derive(Clone, Copy, PartialEq, Eq, Debug)]
+pub(crate) enum Tag {
+    Terms,
+    Buyer,
+    Opening,
+    Entry,
+    Change,
+    Cancellation,
+    Closing,
+    Draw,
 }
 
-// How long the value of a tag is.
-pub(crate) fn width(tag: u8) -> Option<usize> {
-    match tag {
-        1 => Some(13),
-        2 => Some(8),
-        3 => Some(4),
-        4 => Some(20),
-        5 => Some(18),
-        6 => Some(10),
-        7 => Some(4),
-        8 => Some(4),
-        _ => None,
+impl TryFrom<u8> for Tag {
+    type Error = Refusal;
+
+    fn try_from(byte: u8) -> Result<Self, Refusal> {
+        match byte {
+            1 => Ok(Tag::Terms),
+            2 => Ok(Tag::Buyer),
+            3 => Ok(Tag::Opening),
+            4 => Ok(Tag::Entry),
+            5 => Ok(Tag::Change),
+            6 => Ok(Tag::Cancellation),
+            7 => Ok(Tag::Closing),
+            8 => Ok(Tag::Draw),
+            _ => Err(Refusal::UnknownTag),
+        }
     }
 }
 
-// The byte at the place; 0 past the end.
-fn byte(bytes: &[u8], at: usize) -> u8 {
-    bytes.get(at).copied().unwrap_or(0)
+impl Tag {
+    // How long its value is.
+    pub(crate) fn width(self) -> usize {
+        match self {
+            Tag::Terms => 13,
+            Tag::Buyer => 8,
+            Tag::Opening => 4,
+            Tag::Entry => 20,
+            Tag::Change => 18,
+            Tag::Cancellation => 10,
+            Tag::Closing => 4,
+            Tag::Draw => 4,
+        }
+    }
+}
+
+// A frame, of whatever tag and length.
+#[derive(Clone, Copy)]
+pub(crate) struct Frame<'a> {
+    pub(crate) tag: u8,
+    pub(crate) value: &'a [u8],
 }
 
 // The number in so many bytes, the high byte first.
 pub(crate) fn number(bytes: &[u8], from: usize, width: usize) -> u32 {
-    let mut number = 0u32;
-    for i in 0..width {
-        let digit = byte(bytes, from.saturating_add(i)) as u32;
-        number = number.wrapping_mul(256).wrapping_add(digit);
-    }
-    number
+    bytes.iter().skip(from).take(width).fold(
+        0,
+        |number: u32, byte| number.wrapping_mul(256).wrapping_add(u32::from(*byte)),
+    )
 }
 
 // The four bytes of a member code.
 pub(crate) fn member(bytes: &[u8], from: usize) -> [u8; 4] {
-    [
-        byte(bytes, from),
-        byte(bytes, from.saturating_add(1)),
-        byte(bytes, from.saturating_add(2)),
-        byte(bytes, from.saturating_add(3)),
-    ]
+    number(bytes, from, 4).to_be_bytes()
 }
 
-// The frame that begins at the place, or none where it is cut short.
-pub(crate) fn frame_at(
-    heap: Global,
-    file: &[u8],
-    place: usize,
-) -> Result<Option<Frame>, AllocError> {
-    let mut value = Vec::new(heap);
-    let start = place.saturating_add(3);
-    if start > file.len() {
-        return Ok(None);
-    }
-    let length = number(file, place.saturating_add(1), 2);
-    for i in 0..length {
-        match file.get(start.saturating_add(i as usize)) {
-            Some(byte) => value.push(*byte)?,
-            None => return Ok(None),
-        }
-    }
-    let tag = byte(file, place);
-    Ok(Some(Frame { tag, place, value }))
+// The first frame and the bytes behind it, or none where it is cut short.
+pub(crate) fn first_frame(bytes: &[u8]) -> Option<(Frame<'_>, &[u8])>
+    ensures { IfSome result (λ found. length found.1.now < length bytes.now) }
+{
+    let [tag, high, low, rest @ ..] = bytes else {
+        return None;
+    };
+    let length = usize::from(u16::from_be_bytes([*high, *low]));
+    let (value, behind) = rest.split_at_checked(length)?;
+    Some((Frame { tag: *tag, value }, behind))
 }

@@ -7,17 +7,20 @@ mod data;
 mod filing;
 mod frames;
 mod lines;
+mod lists;
+mod refusal;
 mod running;
 mod settling;
 mod sharing;
 mod trading;
 
-pub use allotting::{Allotment, Row, allot, allotment_code};
-pub use data::{Buyer, Call, Claim, Terms};
-pub use filing::{closing_code, filing_code, opening_code};
+pub use allotting::{Allotment, Row, allot, judge_allotment};
+pub use data::{Buyer, Call, Claim, Places, Terms};
+pub use filing::{judge_closing, judge_filing, judge_opening};
 pub use lines::{statement, tender};
+pub use refusal::Refusal;
 pub use settling::{Receipt, bill, settle};
 pub use sharing::{
-    Rule, rank, ranks_code, recorded_ranks, shares, sharing_code, stride_code, stride_ranks,
+    Rule, judge_claims, judge_ranks, judge_stride, rank, recorded_ranks, shares, stride_ranks,
 };
 pub use trading::{Offer, Trading};

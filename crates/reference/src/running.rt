@@ -1,28 +1,31 @@
 // A file from its first frame to the allotment.
 use super::allotting::{Allotment, allot};
 use super::data::{Buyer, Call, Terms};
-use super::filing::{closing_code, filing_code, opening_code};
-use super::frames::{Frame, frame_at, member, number, width};
-use super::sharing::{stride_code, stride_ranks};
+use super::filing::{judge_closing, judge_filing, judge_opening};
+use super::frames::{Frame, Tag, first_frame, member, number};
+use super::refusal::{Refusal, Stop};
+use super::sharing::{judge_stride, stride_ranks};
 use super::trading::{Offer, Trading};
-use std::alloc::{AllocError, AllocFailed, Global};
+use std::alloc::{AllocError, Global};
 
-// Why a run ends without an allotment.
-#[derive(Drop)]
-pub(crate) enum Stop {
-    Fault { number: u8, place: usize },
-    Memory,
+// Why a file is refused, and the place of the byte up to which it is well.
+#[derive(Clone, Copy, PartialEq, Eq, Debug)]
+pub(crate) struct Fault {
+    pub(crate) refusal: Refusal,
+    pub(crate) place: usize,
 }
 
-impl From<AllocError> for Stop {
-    fn from(_error: AllocError) -> Stop {
-        Stop::Memory
+impl From<Fault> for Stop<Fault> {
+    fn from(fault: Fault) -> Self {
+        Stop::Refused(fault)
     }
 }
 
-impl<T: Drop> From<AllocFailed<T>> for Stop {
-    fn from(_error: AllocFailed<T>) -> Stop {
-        Stop::Memory
+// What stops a file, whose frame at the place is stopped.
+fn stop_at(stop: Stop<Refusal>, place: usize) -> Stop<Fault> {
+    match stop {
+        Stop::Refused(refusal) => Stop::Refused(Fault { refusal, place }),
+        Stop::Memory(error) => Stop::Memory(error),
     }
 }
 
@@ -38,7 +41,7 @@ pub(crate) struct Report {
 }
 
 // Where a file is: which frames may come next.
-#[derive(Clone, Copy)]
+#[derive(Clone, Copy, PartialEq, Eq, Debug)]
 enum Stage {
     Start,
     Filing,
@@ -60,111 +63,92 @@ struct Progress {
     refused: u64,
 }
 
-// The terms before any are read.
-const NO_TERMS: Terms = Terms {
-    kind: 0,
-    method: 0,
-    shortfall: 0,
-    unit: 0,
-    previous_close: 0,
-    bank_closing: 0,
-};
-
 impl Progress {
     fn new(heap: Global) -> Progress {
         Progress {
             stage: Stage::Start,
-            terms: NO_TERMS,
+            terms: Terms::default(),
             buyers: Vec::new(heap),
             stride: 0,
             shift: 0,
-            trading: Trading::new(heap, NO_TERMS, &[], 0, 512),
+            trading: Trading::new(heap, Terms::default(), &[], 0, 512),
             accepted: 0,
             refused: 0,
         }
     }
 
     // Whether a frame of the tag may come now.
-    fn expects(&self, tag: u8) -> bool {
+    fn expects(&self, tag: Tag) -> bool {
         match (self.stage, tag) {
-            (Stage::Start, 1) => true,
-            (Stage::Filing, 2) => self.buyers.len() < 8,
-            (Stage::Filing, 8) => true,
-            (Stage::Drawn, 3) => true,
-            (Stage::Open, 4..=7) => true,
+            (Stage::Start, Tag::Terms) => true,
+            (Stage::Filing, Tag::Buyer) => self.buyers.len() < 8,
+            (Stage::Filing, Tag::Draw) => true,
+            (Stage::Drawn, Tag::Opening) => true,
+            (Stage::Open, Tag::Entry | Tag::Change | Tag::Cancellation | Tag::Closing) => true,
             _ => false,
         }
     }
 
     // Files the tender, and then makes the draw.
-    fn file(&mut self, stride: u32, shift: u32) -> u8 {
+    fn file(&mut self, stride: u32, shift: u32) -> Result<(), Refusal> {
         self.stage = Stage::Drawn;
         self.stride = stride;
         self.shift = shift;
-        let code = filing_code(&self.terms, self.buyers.as_slice());
-        if code != 0 {
-            return code;
-        }
-        stride_code(stride, shift)
+        judge_filing(&self.terms, self.buyers.as_slice())?;
+        judge_stride(stride, shift)
     }
 
     // Opens the tender, with a book on 512 records.
-    fn open(&mut self, heap: Global, base: u32) -> u8 {
+    fn open(&mut self, heap: Global, base: u32) -> Result<(), Refusal> {
         self.stage = Stage::Open;
         let buyers = self.buyers.as_slice();
         self.trading = Trading::new(heap, self.terms, buyers, base, 512);
-        opening_code(&self.terms, base)
+        judge_opening(&self.terms, base)
     }
 
     // Closes the tender.
-    fn close(&mut self, time: u32) -> u8 {
+    fn close(&mut self, time: u32) -> Result<(), Refusal> {
         self.stage = Stage::Closed;
-        closing_code(self.terms.kind, time)
+        judge_closing(self.terms.kind, time)
     }
 
-    // Makes a call, and counts it.
-    fn trade(&mut self, call: Call) -> Result<u8, AllocError> {
-        let code = self.trading.call(call, self.buyers.as_slice())?;
-        if code == 0 {
-            self.accepted = self.accepted.saturating_add(1);
-        } else {
-            self.refused = self.refused.saturating_add(1);
+    // Makes a call, and counts it, whether it is accepted or refused.
+    fn trade(&mut self, call: Call) -> Result<(), AllocError> {
+        match self.trading.call(call, self.buyers.as_slice())? {
+            Ok(()) => self.accepted = self.accepted.saturating_add(1),
+            Err(_) => self.refused = self.refused.saturating_add(1),
         }
-        Ok(0)
+        Ok(())
     }
 
-    // Does what a frame asks, and answers the number of the rule that it breaks.
-    fn follow(&mut self, heap: Global, frame: &Frame) -> Result<u8, AllocError> {
-        let value = frame.value.as_slice();
-        match frame.tag {
-            1 => {
+    // Does what a frame asks.
+    fn follow(&mut self, heap: Global, tag: Tag, value: &[u8]) -> Result<(), Stop<Refusal>> {
+        match tag {
+            Tag::Terms => {
                 self.stage = Stage::Filing;
                 self.terms = terms_in(value);
-                Ok(0)
             }
-            2 => {
-                self.buyers.push(buyer_in(value))?;
-                Ok(0)
-            }
-            8 => Ok(self.file(number(value, 0, 2), number(value, 2, 2))),
-            3 => Ok(self.open(heap, number(value, 0, 4))),
-            7 => Ok(self.close(number(value, 0, 4))),
-            tag => self.trade(call_in(tag, value)),
+            Tag::Buyer => self.buyers.push(buyer_in(value))?,
+            Tag::Draw => self.file(number(value, 0, 2), number(value, 2, 2))?,
+            Tag::Opening => self.open(heap, number(value, 0, 4))?,
+            Tag::Entry => self.trade(entry_in(value))?,
+            Tag::Change => self.trade(change_in(value))?,
+            Tag::Cancellation => self.trade(cancellation_in(value))?,
+            Tag::Closing => self.close(number(value, 0, 4))?,
         }
+        Ok(())
     }
 
     // Judges a frame by its tag, its length and its order, and then follows it.
-    fn take(&mut self, heap: Global, frame: &Frame) -> Result<u8, AllocError> {
-        let Some(width) = width(frame.tag) else {
-            return Ok(21);
-        };
-        if frame.value.len() != width {
-            return Ok(22);
+    fn take(&mut self, heap: Global, frame: Frame<'_>) -> Result<(), Stop<Refusal>> {
+        let tag = Tag::try_from(frame.tag)?;
+        if frame.value.len() != tag.width() {
+            return Err(Stop::Refused(Refusal::WrongLength));
         }
-        if !self.expects(frame.tag) {
-            return Ok(23);
+        if !self.expects(tag) {
+            return Err(Stop::Refused(Refusal::Order));
         }
-        self.follow(heap, frame)
+        self.follow(heap, tag, frame.value)
     }
 
     // Allots, once the tender is closed.
@@ -211,70 +195,68 @@ fn terms_in(value: &[u8]) -> Terms {
     }
 }
 
-// The call in a value.
-fn call_in(tag: u8, value: &[u8]) -> Call {
-    let time = number(value, 0, 4);
-    let member = member(value, 4);
-    match tag {
-        4 => Call::Enter {
-            time,
-            member,
-            account: number(value, 8, 4),
-            price: number(value, 12, 4),
-            lots: number(value, 16, 4),
-        },
-        5 => Call::Change {
-            time,
-            member,
-            number: number(value, 8, 2),
-            price: number(value, 10, 4),
-            lots: number(value, 14, 4),
-        },
-        _ => Call::Cancel {
-            time,
-            member,
-            number: number(value, 8, 2),
-        },
+// The entry in a value.
+fn entry_in(value: &[u8]) -> Call {
+    Call::Enter {
+        time: number(value, 0, 4),
+        member: member(value, 4),
+        account: number(value, 8, 4),
+        price: number(value, 12, 4),
+        lots: number(value, 16, 4),
+    }
+}
+
+// The change in a value.
+fn change_in(value: &[u8]) -> Call {
+    Call::Change {
+        time: number(value, 0, 4),
+        member: member(value, 4),
+        number: number(value, 8, 2),
+        price: number(value, 10, 4),
+        lots: number(value, 14, 4),
+    }
+}
+
+// The cancellation in a value.
+fn cancellation_in(value: &[u8]) -> Call {
+    Call::Cancel {
+        time: number(value, 0, 4),
+        member: member(value, 4),
+        number: number(value, 8, 2),
     }
 }
 
 // Reads a file, frame by frame.
-fn read(heap: Global, file: &[u8]) -> Result<Progress, Stop> {
+fn read(heap: Global, file: &[u8]) -> Result<Progress, Stop<Fault>> {
     let mut progress = Progress::new(heap);
-    let mut place = 0usize;
-    for _ in 0..file.len() {
-        if place >= file.len() {
-            return Ok(progress);
-        }
-        let Some(frame) = frame_at(heap, file, place)? else {
-            return Err(Stop::Fault { number: 20, place });
+    let mut rest = file;
+    while !rest.is_empty() {
+        let place = file.len().saturating_sub(rest.len());
+        let Some((frame, behind)) = first_frame(rest) else {
+            return Err(stop_at(Refusal::CutShort.into(), place));
         };
-        let number = progress.take(heap, &frame)?;
-        if number != 0 {
-            return Err(Stop::Fault { number, place });
-        }
-        place = place.saturating_add(3).saturating_add(frame.value.len());
+        progress
+            .take(heap, frame)
+            .map_err(|stop| stop_at(stop, place))?;
+        rest = behind;
     }
     Ok(progress)
 }
 
 // Runs a file to its end.
-pub(crate) fn run(heap: Global, file: &[u8]) -> Result<Report, Stop> {
+pub(crate) fn run(heap: Global, file: &[u8]) -> Result<Report, Stop<Fault>> {
     if file.len() > 65_536 {
-        return Err(Stop::Fault {
-            number: 20,
+        return Err(Stop::Refused(Fault {
+            refusal: Refusal::CutShort,
             place: 65_536,
-        });
+        }));
     }
     let progress = read(heap, file)?;
-    match progress.stage {
-        Stage::Closed => {
-            let report = progress.finish(heap)?;
-            Ok(report)
-        }
-        _ => Err(Stop::Fault {
-            number: 23,
+    if progress.stage != Stage::Closed {
+        return Err(Stop::Refused(Fault {
+            refusal: Refusal::Order,
             place: file.len(),
-        }),
+        }));
     }
+    Ok(progress.finish(heap)?)
 }

@@ -4,7 +4,7 @@ ghost use Rattle.std.specs.Prelude.{◌≡◌, ◌≤◌, length};
 use super::allotting::Row;
 
 // What a payment costs beside it, in cents, and whether it is a breach.
-#[derive(Clone, Copy)]
+#[derive(Clone, Copy, PartialEq, Eq, Debug, Default)]
 pub struct Receipt {
     pub charge: u64,
     pub breach: bool,
@@ -20,7 +20,7 @@ fn charge(time: u32) -> u64
     let mut charge = 3_000_000u64;
     for hours in 1..9u32 {
         if time > 55_800 + hours * 3_600 {
-            charge = 3_000_000 + hours as u64 * 1_000_000;
+            charge = 3_000_000 + u64::from(hours) * 1_000_000;
         }
     }
     charge
@@ -31,10 +31,7 @@ pub fn settle(payment: u64, bank_closing: u32, paid_at: Option<u32>) -> Receipt
     ensures { result.charge ≤ 11000000 }
 {
     if payment == 0 {
-        return Receipt {
-            charge: 0,
-            breach: false,
-        };
+        return Receipt::default();
     }
     match paid_at {
         None => Receipt {
@@ -55,13 +52,12 @@ pub fn settle(payment: u64, bank_closing: u32, paid_at: Option<u32>) -> Receipt
 pub fn bill(rows: &mut [Row], index: usize) -> u64
     ensures { length rows.old ≤ index → result ≡ 0 }
 {
-    if index >= rows.len() {
+    let Some(row) = rows.get_mut(index) else {
         return 0;
-    }
-    let row = rows[index];
+    };
     if row.billed || row.lots == 0 || row.payment == 0 {
         return 0;
     }
-    rows[index].billed = true;
+    row.billed = true;
     row.payment
 }

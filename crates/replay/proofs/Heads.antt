@@ -1,5 +1,5 @@
 -- The steps that the messages of a file ask for, in its reading.
-use Rattle.std.proofs.Common.{◌≡◌, ℕ, Bool, true, false, cond, not, ◌&&◌, eqb, leb, List, [], ◌∷◌, length, drop, is_some, Ok, Err, Result, sym, refl, subst, arith}
+use Rattle.std.proofs.Common.{◌≡◌, ℕ, Bool, true, false, cond, not, ◌&&◌, eqb, leb, List, [], ◌∷◌, length, drop, is_some, Ok, Err, Result, MatchResult, sym, refl, subst, arith}
 use Rattle.std.proofs.lemmas.Bool.{and_from, and_parts, eq-eqb}
 use Rattle.stages.specs.declared.opened.Open.{Open}
 use Rattle.stages.specs.declared.particulars.Particulars.{Particulars}
@@ -7,6 +7,7 @@ use Rattle.stages.specs.declared.terms.Buyer.{Buyer}
 use Rattle.stages.specs.declared.terms.Terms.{Terms}
 use Rattle.stages.specs.Buyers.{all_have_lots, all_within, as_filed, demanded, lots_fit}
 use Rattle.stages.specs.Filing.{AsFiled, buyers_fit_choice, choices_at, filing_code, ranges_fit}
+use Rattle.stages.specs.Steps.{opening_code}
 use Rattle.sharing.specs.Draws.{stride_code}
 use Rattle.values.specs.declared.draw.DrawNumbers.{DrawNumbers}
 use Rattle.messages.specs.declared.message.Message.TheVariants as says
@@ -17,7 +18,7 @@ use Rattle.faults.specs.Faults.{number_of, place_of}
 use Rattle.replay.specs.Files.{Leads, Reads}
 use Rattle.replay.specs.Files.Reads.{refused}
 use Rattle.replay.specs.Files.Verdict.{Faulty}
-use Rattle.replay.specs.Heading.{Refused, StepOpened}
+use Rattle.replay.specs.Heading.{Refused}
 use Rattle.replay.specs.Reading.{Buyers}
 use Rattle.replay.specs.Running.{OpenedAt, faulted}
 use Rattle.replay.specs.Stages.{Stage}
@@ -35,7 +36,8 @@ ruled rest at n s e h r =
 
 -- the opening at its place
 pub opened : (file : List ℕ) (at then : ℕ) (p : Particulars) (base : ℕ) (r : Result Open ProgramFault) →
-    MessageStands file at (record { place = at; message = says.Open base }) then → StepOpened p base at r → OpenedAt file at p r then
+    MessageStands file at (record { place = at; message = says.Open base }) then →
+    MatchResult r (λ o. (opening_code p base ≡ 0) × (o.particulars ≡ p) × (o.base ≡ base)) (λ e. Refused (opening_code p base) at e) → OpenedAt file at p r then
 opened file at then p base (Ok o) f h = (
   h.1,
   λ t bs d filed. subst (λ b. Leads file at (Drawn t bs d) then (Running t bs d b [])) (sym h.2) (past file at then _ _ _ f (opens filed h.0)),

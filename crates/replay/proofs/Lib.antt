@@ -1,8 +1,10 @@
+mod Mapped
 mod Walk
 mod Tags
 mod Loops
 mod Heads
 mod Ends
 mod Encoded
+mod Standing
 mod Joined
 mod Alone

@@ -1,7 +1,6 @@
 -- One turn of the loops over buyers and over calls.
-use Rattle.std.proofs.Common.{◌≡◌, ℕ, ◌+◌, ◌*◌, ◌<◌, ◌≤◌, false, List, [], ◌∷◌, ◌++◌, length, take, drop, set, sym, refl, ap, subst, arith}
-use Rattle.std.proofs.lemmas.List.{length-append, length-take-le, take_all, take_more_set}
-use Rattle.std.proofs.lemmas.Bool.{le-ltb}
+use Rattle.std.proofs.Common.{◌≡◌, ℕ, ◌+◌, ◌*◌, ◌<◌, ◌≤◌, false, List, [], ◌∷◌, ◌++◌, length, sym, refl, subst, arith}
+use Rattle.std.proofs.lemmas.List.{length-append}
 use Rattle.stages.specs.declared.terms.Buyer.{Buyer}
 use Rattle.stages.specs.declared.terms.Terms.{Terms}
 use Rattle.book.specs.declared.call.Call.{Call}
@@ -14,7 +13,7 @@ use Rattle.messages.specs.Messages.{CallFits, Fits, message_bytes, tag_of}
 use Rattle.values.specs.Fields.{four_bytes, two_bytes}
 use Rattle.messages.specs.Reading.{MessageStands}
 use Rattle.faults.specs.declared.fault.OrderFault.TheVariants.{OutOfOrder}
-use Rattle.replay.specs.Files.{Leads, Reads}
+use Rattle.replay.specs.Files.{Leads}
 use Rattle.replay.specs.Reading.{Stops}
 use Rattle.replay.specs.Stages.{Stage, Step, in_order}
 use Rattle.replay.specs.Stages.Stage.{Filing, Running}
@@ -26,23 +25,22 @@ same : (ys file : List ℕ) (at then : ℕ) (p : Placed) → ys ≡ file → Mes
 same ys file at then p e f = subst (λ z. MessageStands z at p then) e f
 
 -- one buyer more
-pub one_buyer : (ys file : List ℕ) (from at then : ℕ) (p : Placed) (t : Terms) (bs : List Buyer) (i : ℕ) (b : Buyer) →
-    ys ≡ file → MessageStands ys at p then → p.message ≡ says.Buyer b → i < length bs → length bs ≡ 8 →
-    Leads file from (Filing t []) at (Filing t (take i bs)) → Leads file from (Filing t []) then (Filing t (take (i + 1) (set bs i b)))
-one_buyer ys file from at then p t bs i b e f is lt long before v rest =
-    let few : length (take i bs) < 8 = omega (arith, length-take-le i bs (omega (arith, lt))) in
-    let step : Step (Filing t (take i bs)) p.message (Filing t (take i bs ++ b ∷ [])) =
-    subst (λ m. Step (Filing t (take i bs)) m (Filing t (take i bs ++ b ∷ []))) (sym is) (buyer few) in
-    before v (past file at then p _ _ (same ys file at then p e f) step v (subst (λ zs. Reads (drop then file) then (Filing t zs) v) (take_more_set bs i b lt) rest))
+pub one_buyer : (ys file : List ℕ) (from at then : ℕ) (p : Placed) (t : Terms) (bs : List Buyer) (b : Buyer) →
+    ys ≡ file → MessageStands ys at p then → p.message ≡ says.Buyer b → length bs < 8 →
+    Leads file from (Filing t []) at (Filing t bs) → Leads file from (Filing t []) then (Filing t (bs ++ b ∷ []))
+one_buyer ys file from at then p t bs b e f is few before v rest =
+    let step : Step (Filing t bs) p.message (Filing t (bs ++ b ∷ [])) =
+    subst (λ m. Step (Filing t bs) m (Filing t (bs ++ b ∷ []))) (sym is) (buyer few) in
+    before v (past file at then p _ _ (same ys file at then p e f) step v rest)
 
 -- one call more
-pub one_call : (ys file : List ℕ) (from at then : ℕ) (p : Placed) (t : Terms) (bs : List Buyer) (d : DrawNumbers) (base : ℕ) (cs : List Call) (i : ℕ) (c : Call) →
-    ys ≡ file → MessageStands ys at p then → p.message ≡ says.Call c → i < length cs →
-    Leads file from (Running t bs d base []) at (Running t bs d base (take i cs)) → Leads file from (Running t bs d base []) then (Running t bs d base (take (i + 1) (set cs i c)))
-one_call ys file from at then p t bs d base cs i c e f is lt before v rest =
-    let step : Step (Running t bs d base (take i cs)) p.message (Running t bs d base (take i cs ++ c ∷ [])) =
-    subst (λ m. Step (Running t bs d base (take i cs)) m (Running t bs d base (take i cs ++ c ∷ []))) (sym is) call in
-    before v (past file at then p _ _ (same ys file at then p e f) step v (subst (λ zs. Reads (drop then file) then (Running t bs d base zs) v) (take_more_set cs i c lt) rest))
+pub one_call : (ys file : List ℕ) (from at then : ℕ) (p : Placed) (t : Terms) (bs : List Buyer) (d : DrawNumbers) (base : ℕ) (cs : List Call) (c : Call) →
+    ys ≡ file → MessageStands ys at p then → p.message ≡ says.Call c →
+    Leads file from (Running t bs d base []) at (Running t bs d base cs) → Leads file from (Running t bs d base []) then (Running t bs d base (cs ++ c ∷ []))
+one_call ys file from at then p t bs d base cs c e f is before v rest =
+    let step : Step (Running t bs d base cs) p.message (Running t bs d base (cs ++ c ∷ [])) =
+    subst (λ m. Step (Running t bs d base cs) m (Running t bs d base (cs ++ c ∷ []))) (sym is) call in
+    before v (past file at then p _ _ (same ys file at then p e f) step v rest)
 
 -- a message out of order behind others that were taken
 pub stopped : (ys file : List ℕ) (from at then : ℕ) (p : Placed) (s s' : Stage) →
@@ -50,10 +48,8 @@ pub stopped : (ys file : List ℕ) (from at then : ℕ) (p : Placed) (s s' : Sta
 stopped ys file from at then p s s' e f wrong before = before _ (misplaced file at then p s' (same ys file at then p e f) wrong)
 
 -- a ninth buyer is out of order
-pub ninth : (t : Terms) (bs : List Buyer) (i : ℕ) (m : Message) (b : Buyer) → m ≡ says.Buyer b → length bs ≡ 8 → length bs ≤ i → in_order (Filing t (take i bs)) (tag_of m) ≡ false
-ninth t bs i m b is long full =
-    let eight : 8 ≤ length (take i bs) = omega (arith, ap length (take_all i bs full)) in
-    subst (λ m. in_order (Filing t (take i bs)) (tag_of m) ≡ false) (sym is) (rw (le-ltb (length (take i bs)) 8 eight) refl)
+pub ninth : (t : Terms) (bs : List Buyer) (m : Message) (b : Buyer) → m ≡ says.Buyer b → length bs ≡ 8 → in_order (Filing t bs) (tag_of m) ≡ false
+ninth t bs m b is full = subst (λ m. in_order (Filing t bs) (tag_of m) ≡ false) (sym is) (rw full refl)
 
 -- the shortest call has 13 bytes
 pub call_long : (c : Call) → CallFits c → 13 ≤ length (message_bytes (says.Call c))

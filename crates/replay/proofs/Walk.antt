@@ -1,5 +1,5 @@
 -- One message on the way through a file.
-use Rattle.std.proofs.Common.{◌≡◌, ℕ, ◌<◌, ◌≤◌, false, List, length, drop, Some, None, Ok, Option, sym, ◌∙◌, subst, arith, lit≤}
+use Rattle.std.proofs.Common.{◌≡◌, ℕ, ◌<◌, ◌≤◌, false, List, length, drop, Some, None, Ok, Option, ok_or, sym, ◌∙◌, subst, arith, lit≤}
 use Rattle.std.proofs.lemmas.List.{drop_all, length-drop}
 use Rattle.frames.specs.declared.fault.FrameFault.{FrameFault}
 use Rattle.frames.specs.declared.fault.FrameFault.TheVariants.{CutShort, TooLong, UnknownTag, WrongLength}
@@ -12,7 +12,7 @@ use Rattle.faults.specs.declared.layer.Layer.TheVariants.{Frame, Order}
 use Rattle.replay.specs.Files.{Leads, Reads, Stands}
 use Rattle.replay.specs.Files.Reads.{broken, ended, out_of_order, taken}
 use Rattle.replay.specs.Files.Verdict.{Faulty}
-use Rattle.replay.specs.Reading.{Stops}
+use Rattle.replay.specs.Reading.{MessageRead, Stops}
 use Rattle.replay.specs.Stages.{Stage, Step, in_order, over}
 
 -- each fault of a frame has a number
@@ -48,11 +48,11 @@ pub past : (file : List ℕ) (at then : ℕ) (p : Placed) (s s' : Stage) → Mes
 past file at then p s s' f step v rest =
     taken (stood file at then p f) step (subst (λ n. Reads (drop then file) n s' v) f.goes rest)
 
--- the end of the file, where nothing is found
-pub at_end : (file : List ℕ) (at then place : ℕ) (o : Option Placed) (s : Stage) → NextMessage file at (Ok o) then → o ≡ None → place ≡ then → over s ≡ false → Stops file at s (Ended place)
-at_end file at then place o s h is here unfinished =
-    let n : (length file ≤ at) × (then ≡ at) = subst (λ o. NextMessage file at (Ok o) then) is h in
-    subst (λ q. Stops file at s (Ended q)) (sym (here ∙ n.1)) (ran_out file at s n.0 unfinished)
+-- the message that is found, or the end of the file
+pub next_or_end : (file : List ℕ) (at then place : ℕ) (o : Option Placed) → NextMessage file at (Ok o) then → place ≡ then →
+    MessageRead file at (ok_or o (Ended place)) then
+next_or_end file at then place (Some p) h is = h
+next_or_end file at then place None h is = λ s unfinished. subst (λ q. Stops file at s (Ended q)) (sym (is ∙ h.1)) (ran_out file at s h.0 unfinished)
 
 -- the message that is found
 pub found_one : (file : List ℕ) (at then : ℕ) (o : Option Placed) (p : Placed) → NextMessage file at (Ok o) then → o ≡ Some p → MessageStands file at p then

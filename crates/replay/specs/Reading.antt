@@ -1,5 +1,5 @@
 -- What each part of the reading promises: where the file is read on, and in which stage; or the fault that the file comes to.
-use Rattle.std.specs.Prelude.{◌≡◌, ℕ, ◌≤◌, false, List, [], length, take, drop, Ok, Err, Result}
+use Rattle.std.specs.Prelude.{◌≡◌, ℕ, ◌≤◌, false, List, [], length, drop, Ok, Err, Result}
 use Rattle.stages.specs.declared.terms.Buyer.{Buyer}
 use Rattle.stages.specs.declared.terms.Terms.{Terms}
 use Rattle.book.specs.declared.call.Call.{Call}
@@ -9,6 +9,7 @@ use Rattle.messages.specs.declared.reader.Placed.{Placed}
 use Rattle.messages.specs.Reading.{MessageStands}
 use Rattle.faults.specs.declared.fault.OrderFault.{OrderFault}
 use Rattle.replay.specs.declared.reading.Heading.{Heading}
+use Rattle.replay.specs.declared.reading.Opening.{Opening}
 use Rattle.replay.specs.declared.reading.Ending.{Ending}
 use Rattle.faults.specs.Faults.{order_layer, order_number, order_place}
 use Rattle.replay.specs.Files.{Leads, Reads, Verdict}
@@ -38,12 +39,12 @@ pub record Buyers (file : List ℕ) (at : ℕ) (t : Terms) (bs : List Buyer) (d 
   pub leads : Leads file at (Filing t []) place (Filing t bs)
   pub found : MessageStands file place (record { place = place; message = says.Draw d }) then
 
-abbrev pub BuyersRead : List ℕ → ℕ → List Buyer → Result Heading OrderFault → ℕ → Type 0
-BuyersRead file at buyers (Ok f) then = (f.count ≤ 8) × ((t : Terms) → Buyers file at t (take f.count buyers) f.draw f.place then)
-BuyersRead file at buyers (Err e) then = (t : Terms) → Stops file at (Filing t []) e
+abbrev pub BuyersRead : List ℕ → ℕ → Result Heading OrderFault → ℕ → Type 0
+BuyersRead file at (Ok f) then = (t : Terms) → Buyers file at t f.buyers.items f.draw f.place then
+BuyersRead file at (Err e) then = (t : Terms) → Stops file at (Filing t []) e
 
-abbrev pub BaseRead : List ℕ → ℕ → Result (ℕ × ℕ) OrderFault → ℕ → Type 0
-BaseRead file at (Ok b) then = (b.1 ≡ at) × MessageStands file at (record { place = at; message = says.Open b.0 }) then
+abbrev pub BaseRead : List ℕ → ℕ → Result Opening OrderFault → ℕ → Type 0
+BaseRead file at (Ok o) then = (o.place ≡ at) × MessageStands file at (record { place = at; message = says.Open o.base }) then
 BaseRead file at (Err e) then = (t : Terms) (bs : List Buyer) (d : DrawNumbers) → Stops file at (Drawn t bs d) e
 
 -- Calls were read from `at` on, and behind them stands the closing.
@@ -52,9 +53,7 @@ pub record Calls (file : List ℕ) (at : ℕ) (t : Terms) (bs : List Buyer) (d :
   pub found : MessageStands file place (record { place = place; message = says.Close closing }) then
 
 abbrev pub CallsRead : List ℕ → ℕ → List Call → Result Ending OrderFault → ℕ → Type 0
-CallsRead file at calls (Ok f) then =
-    (f.count ≤ length calls) ×
-    ((t : Terms) (bs : List Buyer) (d : DrawNumbers) (base : ℕ) → Calls file at t bs d base (take f.count calls) f.closing f.place then)
+CallsRead file at calls (Ok f) then = (t : Terms) (bs : List Buyer) (d : DrawNumbers) (base : ℕ) → Calls file at t bs d base calls f.closing f.place then
 CallsRead file at calls (Err e) then =
     (t : Terms) (bs : List Buyer) (d : DrawNumbers) (base : ℕ) → Stops file at (Running t bs d base []) e
 

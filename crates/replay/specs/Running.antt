@@ -1,27 +1,23 @@
 -- What a whole file is answered by.
-use Rattle.std.specs.Prelude.{◌≡◌, ℕ, ◌≤◌, true, List, [], length, take, drop, Ok, Err, Result}
+use Rattle.std.specs.Prelude.{◌≡◌, ℕ, ◌≤◌, true, List, [], length, drop, Ok, Err, Result}
 use Rattle.stages.specs.declared.opened.Open.{Open}
 use Rattle.stages.specs.declared.particulars.Particulars.{Particulars}
 use Rattle.stages.specs.declared.terms.Buyer.{Buyer}
 use Rattle.stages.specs.declared.terms.Terms.{Terms}
 use Rattle.stages.specs.Buyers.{as_filed}
 use Rattle.stages.specs.Filing.{AsFiled}
-use Rattle.sharing.specs.declared.claim.Claim.{Claim}
 use Rattle.sharing.specs.Draws.{stridden}
 use Rattle.sharing.specs.Shares.{largest_remainder}
 use Rattle.book.specs.declared.call.Call.{Call}
-use Rattle.book.specs.declared.offer.Offer.{Offer}
-use Rattle.allotment.specs.declared.pay.BuyerRow.{BuyerRow}
-use Rattle.tender_run.specs.declared.running.Outcome.{Outcome}
 use Rattle.tender_run.specs.Promise.{RunPromise}
-use Rattle.tender_run.specs.Runs.{rule_of}
+use Rattle.tender_run.specs.Runs.{rule_of, tallied}
 use Rattle.values.specs.declared.draw.DrawNumbers.{DrawNumbers}
 use Rattle.messages.specs.declared.reader.MessageReader.{MessageReader}
 use Rattle.messages.specs.Reading.{file_of, next_place}
 use Rattle.faults.specs.declared.fault.OrderFault.{OrderFault}
 use Rattle.faults.specs.declared.fault.ProgramFault.{ProgramFault}
 use Rattle.replay.specs.declared.heading.Drawing.{Drawing}
-use Rattle.replay.specs.declared.whole.Ran.{Ran as RanOutcome}
+use Rattle.replay.specs.declared.running.Ran.{Ran as RanCalls}
 use Rattle.replay.specs.declared.report.Report.{Report}
 use Rattle.faults.specs.Faults.{layer_of, number_of, order_layer, order_number, order_place, place_of}
 use Rattle.replay.specs.Files.{ComesTo, Leads, Reads, Verdict, bytes_of, script_messages}
@@ -34,21 +30,18 @@ abbrev pub faulted : ProgramFault → Verdict
 faulted e = Faulty (layer_of e) (number_of e) (place_of e)
 
 -- A tender was read from a place on: filed on terms for the buyers, with a draw of the numbers.
-pub record TenderRead (file : List ℕ) (at : ℕ) (buyers : List Buyer) (d : Drawing) (then : ℕ) : Type 0 where
+pub record TenderRead (file : List ℕ) (at : ℕ) (d : Drawing) (then : ℕ) : Type 0 where
   pub terms : Terms
   pub numbers : DrawNumbers
-  pub filed : AsFiled terms (take d.count buyers) d.filed.particulars
-  pub as_filed_for : as_filed d.filed.particulars (take d.count buyers) ≡ true
-  pub few : d.count ≤ length buyers
+  pub filed : AsFiled terms d.buyers.items d.filed.particulars
+  pub as_filed_for : as_filed d.filed.particulars d.buyers.items ≡ true
   pub stride : d.draw.stride ≡ numbers.stride
   pub shift : d.draw.shift ≡ numbers.shift
-  pub second_stride : d.second.stride ≡ numbers.stride
-  pub second_shift : d.second.shift ≡ numbers.shift
-  pub leads : Leads file at Start then (Drawn terms (take d.count buyers) numbers)
+  pub leads : Leads file at Start then (Drawn terms d.buyers.items numbers)
 
-abbrev pub Headed : List ℕ → ℕ → List Buyer → Result Drawing ProgramFault → ℕ → Type 0
-Headed file at buyers (Ok d) then = TenderRead file at buyers d then
-Headed file at buyers (Err e) then = Reads (drop at file) at Start (faulted e)
+abbrev pub Headed : List ℕ → ℕ → Result Drawing ProgramFault → ℕ → Type 0
+Headed file at (Ok d) then = TenderRead file at d then
+Headed file at (Err e) then = Reads (drop at file) at Start (faulted e)
 
 -- the tender is opened, or the file comes to a fault
 abbrev pub OpenedAt : List ℕ → ℕ → Particulars → Result Open ProgramFault → ℕ → Type 0
@@ -60,16 +53,21 @@ OpenedAt file at p (Err e) then = (t : Terms) (bs : List Buyer) (d : DrawNumbers
 abbrev pub script_of : Terms → List Buyer → DrawNumbers → ℕ → List Call → ℕ → Script
 script_of t bs d base cs closing = record { terms = t; buyers = bs; draw = d; base = base; calls = cs; closing = closing }
 
+-- The whole promise of a run with a draw of these ranks, and the offers that it answers are those that stand.
+pub record RunPromised (rank : ℕ → ℕ) (tender : Open) (calls : List Call) (bs : List Buyer) (r : RanCalls) : Type 0 where
+  pub promise :
+      RunPromise (rule_of tender.particulars.kind rank) (largest_remainder rank) tender calls bs
+      r.outcome r.offers.items r.fills r.rows
+  pub offers : r.offers.items ≡ (tallied tender bs calls).list
+
 -- An open tender was run to the end of the file, with the calls that stand in it.
-pub record RunRead
-    (file : List ℕ) (at : ℕ) (sellers buyers : List Claim → ℕ → List ℕ) (tender : Open) (bs : List Buyer)
-    (o : Outcome) (records : List Offer) (fills : List ℕ) (rows : List BuyerRow) : Type 0 where
+pub record RunRead (file : List ℕ) (at : ℕ) (rank : ℕ → ℕ) (tender : Open) (bs : List Buyer) (r : RanCalls) : Type 0 where
   pub calls : List Call
   pub closing : ℕ
   pub reads :
-      (t : Terms) (d : DrawNumbers) → AsFiled t bs tender.particulars →
-      Reads (drop at file) at (Running t bs d tender.base []) (Ran (script_of t bs d tender.base calls closing))
-  pub promise : RunPromise sellers buyers tender calls bs o records fills rows
+      (t : Terms) (n : DrawNumbers) → AsFiled t bs tender.particulars →
+      Reads (drop at file) at (Running t bs n tender.base []) (Ran (script_of t bs n tender.base calls closing))
+  pub promised : RunPromised rank tender calls bs r
 
 -- the run of an open tender comes to a fault
 abbrev pub RunStops : List ℕ → ℕ → Open → List Buyer → ProgramFault → Type 0
@@ -77,8 +75,7 @@ RunStops file at tender bs e =
     (t : Terms) (d : DrawNumbers) → AsFiled t bs tender.particulars → Reads (drop at file) at (Running t bs d tender.base []) (faulted e)
 
 -- A run of a file: its script, its bytes, the tender of the script, and the whole promise of its run.
-pub record Told
-    (file : List ℕ) (p : Particulars) (o : Outcome) (buyers : List Buyer) (offers : List Offer) (fills : List ℕ) (rows : List BuyerRow) : Type 0 where
+pub record Told (file : List ℕ) (r : Report) : Type 0 where
   pub script : Script
   pub tender : Open
   -- The file, read message by message, comes to a run by the script.
@@ -89,21 +86,19 @@ pub record Told
   pub filed : AsFiled script.terms script.buyers tender.particulars
   pub base : tender.base ≡ script.base
   -- The particulars and the buyers are the tender's.
-  pub particulars : p ≡ tender.particulars
-  pub buyers_filed : take p.buyers buyers ≡ script.buyers
+  pub particulars : r.particulars ≡ tender.particulars
+  pub buyers_filed : r.buyers.items ≡ script.buyers
   -- The run of the calls, with the draw for the sellers' rule of the kind and for the buyers' rule.
   pub run :
       RunPromise (rule_of tender.particulars.kind (stridden script.draw.stride script.draw.shift))
-      (largest_remainder (stridden script.draw.stride script.draw.shift)) tender script.calls script.buyers o offers fills rows
-
--- what a file is answered by, over the places that are written
-abbrev pub ReplayedInto : List ℕ → Result RanOutcome ProgramFault → List Buyer → List Offer → List ℕ → List BuyerRow → Type 0
-ReplayedInto file (Ok r) buyers offers fills rows = Told file r.particulars r.outcome buyers offers fills rows
-ReplayedInto file (Err e) buyers offers fills rows = ComesTo file (faulted e)
+      (largest_remainder (stridden script.draw.stride script.draw.shift)) tender script.calls script.buyers
+      r.outcome r.offers.items r.fills r.rows
+  -- The offers are those that stand after the calls, and no others.
+  pub offers : r.offers.items ≡ (tallied tender script.buyers script.calls).list
 
 -- What a file is answered by: a report of it, or the fault that it comes to.
 abbrev pub Replayed : List ℕ → Result Report ProgramFault → Type 0
-Replayed file (Ok r) = Told file r.particulars r.outcome r.buyers r.offers r.fills r.rows
+Replayed file (Ok r) = Told file r
 Replayed file (Err e) = ComesTo file (faulted e)
 
 -- a reader at the start of the file, or the fault that the file comes to

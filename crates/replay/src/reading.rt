@@ -1,9 +1,9 @@
 // The messages of a tender file, read in their order.
 ghost use Rattle.std.specs.Prelude.{◌≡◌, ◌≤◌, [], length};
-ghost use Rattle.messages.specs.declared.message.Message.TheVariants.{Draw, Open as Opens};
 ghost use Rattle.messages.specs.Reading.{file_of, next_place};
 ghost use Rattle.replay.specs.Reading.{BuyersRead, CallsRead, EndRead, MessageRead, TermsRead, BaseRead};
 
+use arrayvec::ArrayVec;
 use book::Call;
 use faults::OrderFault;
 use messages::{Message, MessageReader, Placed};
@@ -15,116 +15,103 @@ fn next<'a>(reader: &mut MessageReader<'a>) -> Result<Placed, OrderFault>
     ensures read { MessageRead (file_of reader.old) (next_place reader.old) result (next_place reader.new) }
     ensures file { file_of reader.new ≡ file_of reader.old }
 {
-    match reader.next()? {
-        Some(placed) => Ok(placed),
-        None => Err(OrderFault::Ended(reader.place())),
-    }
+    let found = reader.next()?;
+    found.ok_or(OrderFault::Ended(reader.place()))
 }
 
-// Reads the terms.
+// Reads the terms. It stays apart from `read_base`: with a closure for the wanted message neither would be shorter.
 pub(crate) fn read_terms<'a>(reader: &mut MessageReader<'a>) -> Result<Terms, OrderFault>
     ensures read { TermsRead (file_of reader.old) (next_place reader.old) result (next_place reader.new) }
     ensures file { file_of reader.new ≡ file_of reader.old }
 {
     let placed = next(reader)?;
-    match placed.message {
-        Message::Terms(terms) => Ok(terms),
-        _ => Err(OrderFault::OutOfOrder(placed.place)),
-    }
+    let Message::Terms(terms) = placed.message else {
+        return Err(OrderFault::OutOfOrder(placed.place));
+    };
+    Ok(terms)
 }
 
 // What stands before the opening beside the terms.
-#[derive(Clone, Copy)]
+#[derive(Drop)]
 pub struct Heading {
-    // how many buyers
-    pub count: usize,
+    pub buyers: ArrayVec<Buyer, 8>,
     pub draw: DrawNumbers,
     // where the draw stands
     pub place: usize,
 }
 
-// Reads up to eight buyers, and the draw behind them.
-pub(crate) fn read_buyers<'a>(
-    reader: &mut MessageReader<'a>,
-    buyers: &mut [Buyer],
-) -> Result<Heading, OrderFault>
-    requires { length buyers.old ≡ 8 }
-    ensures read { BuyersRead (file_of reader.old) (next_place reader.old) buyers.new result (next_place reader.new) }
+// Reads up to eight buyers, and the draw behind them. It stays apart from `read_calls`: a ninth buyer is refused, where a file has no
+// room for a call too many. Neither loop is a chain, since a message out of order ends it by the fault of its place.
+pub(crate) fn read_buyers<'a>(reader: &mut MessageReader<'a>) -> Result<Heading, OrderFault>
+    ensures read { BuyersRead (file_of reader.old) (next_place reader.old) result (next_place reader.new) }
     ensures file { file_of reader.new ≡ file_of reader.old }
-    ensures room { length buyers.new ≡ 8 }
 {
-    let mut count = 0;
+    let mut buyers = ArrayVec::new();
     loop {
-        let placed = next(reader)?;
-        match placed.message {
+        let Placed { place, message } = next(reader)?;
+        match message {
             Message::Buyer(buyer) => {
-                if count >= buyers.len() {
-                    return Err(OrderFault::OutOfOrder(placed.place));
-                }
-                buyers[count] = buyer;
-                count += 1;
+                let Ok(()) = buyers.try_push(buyer) else {
+                    return Err(OrderFault::OutOfOrder(place));
+                };
             }
             Message::Draw(draw) => {
                 return Ok(Heading {
-                    count,
+                    buyers,
                     draw,
-                    place: placed.place,
+                    place,
                 });
             }
-            _ => return Err(OrderFault::OutOfOrder(placed.place)),
+            _ => return Err(OrderFault::OutOfOrder(place)),
         }
     }
 }
 
-// Reads the base price, and answers it with its place.
-pub(crate) fn read_base<'a>(reader: &mut MessageReader<'a>) -> Result<(u32, usize), OrderFault>
+// A base price, and where it stands.
+#[derive(Clone, Copy)]
+pub struct Opening {
+    pub base: u32,
+    pub place: usize,
+}
+
+// Reads the base price.
+pub(crate) fn read_base<'a>(reader: &mut MessageReader<'a>) -> Result<Opening, OrderFault>
     ensures read { BaseRead (file_of reader.old) (next_place reader.old) result (next_place reader.new) }
     ensures file { file_of reader.new ≡ file_of reader.old }
 {
-    let placed = next(reader)?;
-    match placed.message {
-        Message::Open(base) => Ok((base, placed.place)),
-        _ => Err(OrderFault::OutOfOrder(placed.place)),
-    }
+    let Placed { place, message } = next(reader)?;
+    let Message::Open(base) = message else {
+        return Err(OrderFault::OutOfOrder(place));
+    };
+    Ok(Opening { base, place })
 }
 
-// What stands behind the opening beside the calls.
+// How many calls a file has room for: the shortest call has 13 of its 65,536 bytes.
+pub(crate) const CALLS: usize = 5_041;
+
+// A closing time, and where it stands.
 #[derive(Clone, Copy)]
 pub struct Ending {
-    // how many calls
-    pub count: usize,
     pub closing: u32,
-    // where the closing stands
     pub place: usize,
 }
 
 // Reads the calls, and the closing behind them.
 pub(crate) fn read_calls<'a>(
     reader: &mut MessageReader<'a>,
-    calls: &mut [Call],
+    calls: &mut ArrayVec<Call, CALLS>,
 ) -> Result<Ending, OrderFault>
-    requires room { length calls.old ≡ 5041 }
+    requires none { calls.old.items ≡ [] }
     requires short { length (file_of reader.old) ≤ 65536 }
-    ensures read { CallsRead (file_of reader.old) (next_place reader.old) calls.new result (next_place reader.new) }
+    ensures read { CallsRead (file_of reader.old) (next_place reader.old) calls.new.items result (next_place reader.new) }
     ensures file { file_of reader.new ≡ file_of reader.old }
-    ensures room { length calls.new ≡ 5041 }
 {
-    let mut count = 0;
     loop {
-        let placed = next(reader)?;
-        match placed.message {
-            Message::Call(call) => {
-                calls[count] = call;
-                count += 1;
-            }
-            Message::Close(closing) => {
-                return Ok(Ending {
-                    count,
-                    closing,
-                    place: placed.place,
-                });
-            }
-            _ => return Err(OrderFault::OutOfOrder(placed.place)),
+        let Placed { place, message } = next(reader)?;
+        match message {
+            Message::Call(call) => calls.push(call),
+            Message::Close(closing) => return Ok(Ending { closing, place }),
+            _ => return Err(OrderFault::OutOfOrder(place)),
         }
     }
 }

@@ -1,18 +1,15 @@
--- A later payment never costs less, and nothing costs more than a default.
-use Rattle.std.proofs.Common.{◌≡◌, ℕ, zero, suc, ◌+◌, ◌*◌, ◌≤◌, Bool, true, false, cond, eqb, ltb, refl, arith}
+-- A later payment never costs less.
+use Rattle.std.proofs.Common.{◌≡◌, ℕ, zero, suc, ◌+◌, ◌*◌, ◌≤◌, Bool, true, false, cond, eqb, ltb, arith}
 use Rattle.std.proofs.lemmas.Bool.{ltb-true, lt-ltb}
 use Rattle.std.proofs.lemmas.Bool.Decides.{nat_tests}
 use Rattle.settlement.specs.declared.receipt.Receipt.{Receipt}
 use Rattle.settlement.specs.declared.slip.Slip.{Slip}
 use Rattle.settlement.specs.Charges.{counted, bank_counted, begun_of, charge_at}
-use Rattle.settlement.specs.Receipts.{receipt_of, default_of, nothing, NoLess}
+use Rattle.settlement.specs.Receipts.{receipt_of, nothing, NoLess}
 
--- a later second counts as no earlier one, and none is past 86,399
+-- a later second counts as no earlier one
 counted_up : (t u : ℕ) → t ≤ u → counted t ≤ counted u
 counted_up t u le = grind (arith, nat_tests)
-
-counted_most : (t : ℕ) → counted t ≤ 86399
-counted_most t = grind (arith, nat_tests)
 
 -- no fewer hours have begun later
 one_up : (m s t : ℕ) → s ≤ t → cond (ltb m s) 1 0 ≤ cond (ltb m t) 1 0
@@ -42,8 +39,3 @@ later s t u le =
     let up = counted_up t u le in
     either (eqb s.payment 0) nothing _ _
     (record { charge = charge_up (counted t) (counted u) up; breach = breach_up (bank_counted s.bank_close) (counted t) (counted u) up })
-
-pub never : (s : Slip) (t : ℕ) → NoLess (receipt_of s t) (default_of s)
-never s t =
-    either (eqb s.payment 0) nothing _ _
-    (record { charge = charge_up (counted t) 86399 (counted_most t); breach = λ _. refl })

@@ -1,11 +1,11 @@
 -- A row that was billed owes nothing any more.
-use Rattle.std.proofs.Common.{◌≡◌, ℕ, zero, suc, ◌<◌, ◌≤◌, Bool, true, false, cond, not, ◌&&◌, ltb, List, [], ◌∷◌, length, set, sym, ap, ◌∙◌, ⊎_elim, arith}
+use Rattle.std.proofs.Common.{◌≡◌, ℕ, zero, suc, ◌<◌, ◌≤◌, Bool, true, false, cond, List, [], ◌∷◌, length, set, sym, ap, ◌∙◌, ⊎_elim, arith}
 use Rattle.std.specs.List.{ContainsAt as Has}
 use Rattle.std.proofs.lemmas.List.{get_or_past, get_or-set_same, get_or-set_other, length-set}
-use Rattle.std.proofs.lemmas.Bool.{and_left, and_right, cases_Bool, cases_eq, cases_lt, le-ltb, true≢false}
+use Rattle.std.proofs.lemmas.Bool.{cases_Bool, cases_eq, cases_lt, true≢false}
 use Rattle.allotment.specs.declared.pay.BuyerRow.{BuyerRow}
 use Rattle.allotment.specs.Rows.{no_row}
-use Rattle.settlement.specs.Bills.{billable, owed, marked, row_at, after_bill, after_bills, NothingAgain, NothingToBill, OthersStay}
+use Rattle.settlement.specs.Bills.{billable, owed, marked, row_at, after_bill, after_bills, NothingAgain, OthersStay}
 
 -- there is something to bill at the index
 abbrev pub open_at : List BuyerRow → ℕ → Bool
@@ -13,21 +13,6 @@ open_at rows i = billable (row_at rows i)
 
 pub owes_nothing : (row : BuyerRow) → billable row ≡ false → owed row ≡ 0
 owes_nothing row not_so = ap (λ (b : Bool). cond b row.payment 0) not_so
-
--- where there is nothing to bill, nothing is billed
-pub nothing_open : (rows : List BuyerRow) (i : ℕ) → NothingToBill rows i → open_at rows i ≡ false
-nothing_open rows i why =
-    let row = row_at rows i in
-    let unmarked = not row.billed in
-    let none : (n : ℕ) → n ≡ 0 → ltb 0 n ≡ false = λ n e. le-ltb 0 n (omega arith) in
-    ⊎_elim
-    (λ (past : length rows ≤ i). ap billable (get_or_past rows i no_row past))
-    (⊎_elim
-    (λ (mark : row.billed ≡ true). and_left unmarked (ltb 0 row.lots && ltb 0 row.payment) (ap not mark))
-    (⊎_elim
-    (λ (e : row.lots ≡ 0). and_right unmarked (ltb 0 row.lots && ltb 0 row.payment) (and_left (ltb 0 row.lots) (ltb 0 row.payment) (none row.lots e)))
-    (λ (e : row.payment ≡ 0). and_right unmarked (ltb 0 row.lots && ltb 0 row.payment) (and_right (ltb 0 row.lots) (ltb 0 row.payment) (none row.payment e)))))
-    why
 
 -- only rows that are there can be billed
 pub among : (rows : List BuyerRow) (i : ℕ) → open_at rows i ≡ true → i < length rows

@@ -23,15 +23,15 @@ fn still_owed(row: BuyerRow) -> u64
     if is_billable(row) { row.payment } else { 0 }
 }
 
-// Marks a row, if it is among the rows and there is something to bill, and answers what is billed.
+// Marks a row, if it is among the rows and there is something to bill, and answers what is billed. The mark is written by index:
+// after `get_mut` a proof knows no row.
 fn mark(rows: &mut [BuyerRow], index: usize) -> u64
     ensures answer { result ≡ bill_of rows.old index }
     ensures rows { rows.new ≡ after_bill rows.old index }
 {
-    if index >= rows.len() {
+    let Some(row) = rows.get(index).copied() else {
         return 0;
-    }
-    let row = rows[index];
+    };
     if !is_billable(row) {
         return 0;
     }
@@ -60,9 +60,6 @@ pub fn unbilled_total(rows: &[BuyerRow]) -> u64
     ensures financing { (receipts : ℕ) → RowsOf Financing receipts rows.now → (result ≡ capped receipts) × SlipsTotal rows.now receipts }
     ensures general { (receipts : ℕ) → RowsOf General receipts rows.now → result ≡ 0 }
 {
-    let mut all = 0u64;
-    for row in rows {
-        all = all.saturating_add(still_owed(*row));
-    }
-    all
+    rows.iter()
+        .fold(0, |all: u64, row| all.saturating_add(still_owed(*row)))
 }

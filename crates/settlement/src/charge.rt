@@ -25,12 +25,12 @@ pub fn late_charge(time: u32) -> u64
     }
     let late = counted - FREE_UNTIL;
     let further_hours = (late - 1) / HOUR;
-    3_000_000 + 1_000_000 * further_hours as u64
+    3_000_000 + 1_000_000 * u64::from(further_hours)
 }
 
 // Answers whether a payment at the time comes after the bank closing time. Outside its range that time counts as the nearer end.
 pub fn is_breach(time: u32, bank_close: u32) -> bool
     ensures { result ≡ breach_of time bank_close }
 {
-    time.min(DAY_END) > bank_close.max(FREE_UNTIL).min(DAY_END)
+    time.min(DAY_END) > bank_close.clamp(FREE_UNTIL, DAY_END)
 }

@@ -3,9 +3,10 @@ ghost use Rattle.std.specs.Prelude.{◌≡◌, ℕ, ◌<◌, ◌≤◌, true, fa
 ghost use Rattle.settlement.specs.Receipts.{default_of, NoLess, receipt_of, slip_for};
 
 use super::charge::{DAY_END, is_breach, late_charge};
-use super::receipt::{NOTHING, Receipt};
+use super::receipt::Receipt;
 
-// What a firm owes, in cents, 0 in a slip for nothing, under a bank closing time. Only billing makes one.
+// What a firm owes, in cents, 0 in a slip for nothing, under a bank closing time. Only billing makes one. It has the mark `spent`
+// since that is what its drop contract is stated on: a slip that is let go unspent is refused.
 pub struct Slip {
     payment: u64,
     bank_close: u32,
@@ -49,7 +50,7 @@ impl Slip {
         ensures { result ≡ receipt_of self.now time }
     {
         if self.payment == 0 {
-            return NOTHING;
+            return Receipt::default();
         }
         Receipt {
             charge: late_charge(time),
@@ -75,7 +76,7 @@ impl Slip {
     {
         self.spent = true;
         if self.payment == 0 {
-            return NOTHING;
+            return Receipt::default();
         }
         Receipt {
             charge: late_charge(DAY_END),

@@ -1,9 +1,9 @@
 // The financing tender that is settled: three firms, and a shortage.
-use allotment::BuyerRow;
+use allotment::{BuyerRow, Sides};
 use book::{Call, Change, Entry, Offer};
 use sharing::StrideDraw;
 use stages::{Buyer, Open, Terms, file};
-use tender_run::run_by_kind;
+use tender_run::{Outcome, Session, run_by_kind};
 
 // The bank closing time of the tender.
 pub(crate) const BANK_CLOSING: u32 = 64_800;
@@ -33,15 +33,6 @@ const FIRMS: [Buyer; 3] = [
         lots: 2,
     },
 ];
-
-// What an unused record holds.
-const NO_OFFER: Offer = Offer {
-    number: 0,
-    member: [0; 4],
-    account: 0,
-    price: 0,
-    lots: 0,
-};
 
 // Makes an entry.
 fn enter(time: u32, member: [u8; 4], account: u32, price: u32, lots: u32) -> Call {
@@ -77,29 +68,24 @@ fn opened() -> Option<Open> {
     filed.open(4_400).ok()
 }
 
-// Runs the tender into the rows, and answers whether it was run.
-pub(crate) fn allotted(rows: &mut [BuyerRow]) -> bool {
-    let Some(tender) = opened() else {
-        return false;
+// Makes the draw that both sides use.
+fn draw() -> Option<StrideDraw> {
+    StrideDraw::new(3, 510).ok()
+}
+
+// Runs the tender into the rows, if nothing is refused.
+pub(crate) fn allotted(rows: &mut [BuyerRow]) -> Option<Outcome> {
+    let tender = opened()?;
+    let draws = Sides {
+        sellers: draw()?,
+        buyers: draw()?,
     };
-    let Ok(sellers) = StrideDraw::new(3, 510) else {
-        return false;
+    let session = Session {
+        calls: &calls(),
+        buyers: &FIRMS,
+        closing: 54_000,
     };
-    let Ok(shared_among) = StrideDraw::new(3, 510) else {
-        return false;
-    };
-    let mut records = [NO_OFFER; 512];
+    let mut records = [Offer::default(); 512];
     let mut fills = [0; 512];
-    run_by_kind(
-        tender,
-        &mut records,
-        &calls(),
-        &FIRMS,
-        54_000,
-        &mut fills,
-        rows,
-        sellers,
-        shared_among,
-    )
-    .is_ok()
+    run_by_kind(tender, &mut records, &session, &mut fills, rows, draws).ok()
 }

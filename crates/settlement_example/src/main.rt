@@ -11,17 +11,10 @@ use settling::show_settlement;
 use std::io;
 use worked::worked_examples;
 
-// What an unused row holds.
-const NO_ROW: BuyerRow = BuyerRow {
-    lots: 0,
-    payment: 0,
-    billed: false,
-};
-
 // Has a financing tender run, settles it, and ends with the worked examples.
 fn start(rt: &HostRuntime) -> io::Result<()> {
-    let mut rows = [NO_ROW; 8];
-    if !allotted(&mut rows) {
+    let mut rows = [BuyerRow::default(); 8];
+    if allotted(&mut rows).is_none() {
         return println!(rt; "the tender is refused");
     }
     show_settlement(rt, &mut rows, BANK_CLOSING)?;

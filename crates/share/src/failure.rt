@@ -50,6 +50,8 @@ impl From<io::Error> for Failure {
     }
 }
 
+// The conversions below are written out, since each says what it gives, which a derived one does not.
+
 impl From<ParseIntError> for Failure {
     ghost from_gives = { λ _ r. r ≡ Usage };
 

@@ -29,13 +29,9 @@ fn run(rt: &HostRuntime) -> Result<String, Failure> {
 
 // Prints what was asked for, or says what failed.
 fn end(rt: &HostRuntime) -> Result<(), Failure> {
-    match run(rt) {
-        Ok(text) => {
-            print!(rt; "{text}")?;
-            Ok(())
-        }
-        Err(failure) => Err(failure.told(rt)),
-    }
+    let text = run(rt).map_err(|failure| failure.told(rt))?;
+    print!(rt; "{text}")?;
+    Ok(())
 }
 
 fn main(rt: HostRuntime) -> ExitCode {

@@ -1,41 +1,30 @@
-ghost use Rattle.std.specs.Prelude.{◌≡◌, ◌++◌, length, IfOk, string_bytes, sum, OnOk};
+ghost use Rattle.std.specs.Prelude.{◌≡◌, ◌++◌, IfOk, string_bytes, OnOk};
 ghost use Rattle.share.specs.Report.{heading, claim_line, claim_lines, total_line, report_of};
-ghost use Rattle.sharing.specs.Totals.{capped};
+ghost use Rattle.share.specs.Rules.{rule_word};
 
+use super::request::Request;
 use super::rule::Rule;
-use sharing::{Claim, claimed_lots};
+use sharing::{Claim, claimed_lots, total_lots};
 use std::alloc::{AllocError, Global};
-
-// What the shares come to.
-fn total(shares: &[u32]) -> u64
-    ensures { result ≡ capped (sum shares.now) }
-{
-    let mut all: u64 = 0;
-    for share in shares {
-        all = all.saturating_add(*share as u64);
-    }
-    all
-}
 
 // The first line.
 fn first_line(
     heap: Global,
-    word: &str,
+    rule: Rule,
     shared: u64,
     all: u64,
     count: usize,
 ) -> Result<String, AllocError>
-    ensures { IfOk result (λ s. string_bytes s ≡ heading word.now shared all count) }
+    ensures { IfOk result (λ s. string_bytes s ≡ heading (rule_word rule) shared all count) }
 {
-    format!(in heap; "{word} shares {shared} of {all} lots among {count} claims\n")
+    format!(in heap; "{rule} shares {shared} of {all} lots among {count} claims\n")
 }
 
 // One claim's line more.
-fn push_claim(text: &mut String, heap: Global, claim: Claim, share: u32) -> Result<(), AllocError>
-    ensures { OnOk result (string_bytes text.new ≡ string_bytes text.old ++ claim_line claim share) }
+fn push_claim(text: &mut String, heap: Global, claim: &Claim, share: u32) -> Result<(), AllocError>
+    ensures { OnOk result (string_bytes text.new ≡ string_bytes text.old ++ claim_line claim.now share) }
 {
-    let number = claim.number;
-    let lots = claim.lots;
+    let Claim { number, lots } = *claim;
     let line = format!(in heap; "claim {number} lots {lots} gets {share}\n")?;
     text.push_str(line.as_str())
 }
@@ -47,11 +36,10 @@ fn push_claims(
     claims: &[Claim],
     shares: &[u32],
 ) -> Result<(), AllocError>
-    requires { length shares.now ≡ length claims.now }
     ensures { OnOk result (string_bytes text.new ≡ string_bytes text.old ++ claim_lines claims.now shares.now) }
 {
-    for i in 0..claims.len() {
-        push_claim(text, heap, claims[i], shares[i])?;
+    for (claim, share) in claims.iter().zip(shares) {
+        push_claim(text, heap, claim, *share)?;
     }
     Ok(())
 }
@@ -65,20 +53,14 @@ fn push_total(text: &mut String, heap: Global, total: u64) -> Result<(), AllocEr
 }
 
 // The text that tells what was shared out.
-pub(crate) fn report(
-    heap: Global,
-    rule: Rule,
-    amount: u32,
-    claims: &[Claim],
-    shares: &[u32],
-) -> Result<String, AllocError>
-    requires { length shares.now ≡ length claims.now }
-    ensures { IfOk result (λ s. string_bytes s ≡ report_of rule amount claims.now shares.now) }
+pub(crate) fn report(heap: Global, request: &Request, shares: &[u32]) -> Result<String, AllocError>
+    ensures { IfOk result (λ s. let q = request.now in string_bytes s ≡ report_of q.rule q.amount q.claims.items shares.now) }
 {
+    let claims = request.claims.as_slice();
     let all = claimed_lots(claims);
-    let shared = all.min(amount as u64);
-    let mut text = first_line(heap, rule.word(), shared, all, claims.len())?;
+    let shared = all.min(u64::from(request.amount));
+    let mut text = first_line(heap, request.rule, shared, all, claims.len())?;
     push_claims(&mut text, heap, claims, shares)?;
-    push_total(&mut text, heap, total(shares))?;
+    push_total(&mut text, heap, total_lots(shares))?;
     Ok(text)
 }

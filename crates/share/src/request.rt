@@ -32,10 +32,10 @@ fn claims(heap: Global, lots: &[String]) -> Result<Vec<Claim>, Failure>
     ensures { IfOk result (λ v. v.items ≡ claims_of (map string_bytes lots.now)) }
 {
     let mut claims = Vec::new(heap);
-    for i in 0..lots.len() {
-        let lots = lots[i].as_str().parse::<u32>()?;
+    for (place, lots) in lots.iter().enumerate() {
+        let lots = lots.as_str().parse::<u32>()?;
         claims.push(Claim {
-            number: number(i),
+            number: number(place),
             lots,
         })?;
     }
@@ -49,9 +49,7 @@ pub fn read(heap: Global, words: &[String]) -> Result<Request, Failure>
     if words.len() < 4 {
         return Err(Failure::Usage);
     }
-    let Some(rule) = Rule::named(words[0].as_str()) else {
-        return Err(Failure::Usage);
-    };
+    let rule = words[0].as_str().parse::<Rule>()?;
     let amount = words[1].as_str().parse::<u32>()?;
     let stride = words[2].as_str().parse::<u16>()?;
     let shift = words[3].as_str().parse::<u16>()?;
@@ -65,20 +63,15 @@ pub fn read(heap: Global, words: &[String]) -> Result<Request, Failure>
     })
 }
 
-// Writes the shares of `amount` among the claims under the rule.
-fn share_under(
-    rule: Rule,
-    stride: u16,
-    shift: u16,
-    claims: &[Claim],
-    amount: u32,
-    shares: &mut [u32],
-) -> Result<(), Refusal>
-    ensures code { code_of result ≡ asked_code stride shift claims.now (length shares.old) }
-    ensures shared { MatchResult result (λ _. shares.new ≡ shares_under rule stride shift claims.now amount) (λ _. shares.new ≡ shares.old) }
+// Writes the shares that are asked for.
+fn share(request: &Request, shares: &mut [u32]) -> Result<(), Refusal>
+    ensures code { code_of result ≡ let q = request.now in asked_code q.stride q.shift q.claims.items (length shares.old) }
+    ensures shared { MatchResult result (λ _. let q = request.now in shares.new ≡ shares_under q.rule q.stride q.shift q.claims.items q.amount) (λ _. shares.new ≡ shares.old) }
 {
-    let draw = StrideDraw::new(stride, shift)?;
-    match rule {
+    let claims = request.claims.as_slice();
+    let amount = request.amount;
+    let draw = StrideDraw::new(request.stride, request.shift)?;
+    match request.rule {
         Rule::Proportional => {
             let mut proportional = Proportional::new(draw);
             proportional.share(claims, amount, shares)
@@ -99,16 +92,8 @@ fn answer_over(heap: Global, request: &Request, shares: &mut [u32]) -> Result<St
     requires { length shares.old ≡ length request.now.claims.items }
     ensures { MatchResult result (λ s. Answered request.now (string_bytes s)) (λ f. Failed request.now f) }
 {
-    let claims = request.claims.as_slice();
-    share_under(
-        request.rule,
-        request.stride,
-        request.shift,
-        claims,
-        request.amount,
-        shares,
-    )?;
-    let text = report(heap, request.rule, request.amount, claims, shares)?;
+    share(request, shares)?;
+    let text = report(heap, request, shares)?;
     Ok(text)
 }
 

@@ -1,7 +1,7 @@
 -- What the numbers that judge ranks and claims tell.
 use Rattle.std.proofs.Common.{◌≡◌, ℕ, Bool, true, false, cond, ◌&&◌, eqb, List, length, Ok, Err, Result, refl, ap, ◌∙◌, arith, MatchResult}
 use Rattle.std.specs.List.{range_with_len}
-use Rattle.std.proofs.lemmas.Bool.{eq-eqb, ne_eqb, eqb-true}
+use Rattle.std.proofs.lemmas.Bool.{eq-eqb, ne_eqb}
 use Rattle.sharing.specs.declared.claim.Claim.{Claim}
 use Rattle.sharing.specs.declared.refusal.Refusal.{Refusal}
 use Rattle.sharing.specs.declared.refusal.Refusal.TheVariants.{Claims, RankCount, EqualRanks, Stride}
@@ -19,20 +19,6 @@ numbered Stride z = omega arith
 
 pub full_code : (ranks : List ℕ) → length ranks ≡ 512 → ranks_code ranks ≡ cond (distinct ranks) 0 18
 full_code ranks long = ap (λ (b : Bool). cond b (cond (distinct ranks) 0 18) 17) (eq-eqb (length ranks) 512 long)
-
-parts : (a b : Bool) → ◌≡◌ {A = ℕ} 0 (cond a (cond b 0 18) 17) → (a ≡ true) × (b ≡ true)
-parts true true z = (refl, refl)
-parts true false z = absurd (omega arith)
-parts false b z = absurd (omega arith)
-
--- accepted ranks are 512, no two equal
-pub accepted_ranks : (ranks : List ℕ) → ◌≡◌ {A = ℕ} 0 (ranks_code ranks) → (length ranks ≡ 512) × (distinct ranks ≡ true)
-accepted_ranks ranks z =
-    let both = parts (eqb (length ranks) 512) (distinct ranks) z in
-    (eqb-true (length ranks) 512 both.0, both.1)
-
-pub stands_on_accepted : (ranks : List ℕ) → ◌≡◌ {A = ℕ} 0 (ranks_code ranks) → ranks ≡ standing ranks
-stands_on_accepted ranks z = ap (λ (n : ℕ). cond (eqb n 0) ranks (range_with_len 0 512)) z
 
 stood : (n : ℕ) (ranks : List ℕ) → (n ≡ 0 → ⊥) → range_with_len 0 512 ≡ cond (eqb n 0) ranks (range_with_len 0 512)
 stood n ranks ne = rw (ne_eqb n 0)

@@ -7,3 +7,4 @@ pub mod Near
 pub mod OwnRanks
 pub mod Queue
 pub mod Rows
+pub mod Totals

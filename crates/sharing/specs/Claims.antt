@@ -1,5 +1,6 @@
 -- Claims, when an amount may be shared among them, and what every sharing of it owes them.
-use Rattle.std.specs.Prelude.{◌≡◌, ℕ, ◌<◌, ◌≤◌, min, Bool, true, cond, ◌&&◌, List, [], ◌∷◌, map, length, sum_by, sum, ◌==◌, nat_le, slice_index, slice_index_or}
+use Rattle.std.specs.Prelude.{◌≡◌, ℕ, ◌<◌, ◌≤◌, min, Bool, cond, ◌&&◌, List, map, length, sum_by, sum, ◌==◌, nat_le, slice_index, slice_index_or}
+use Rattle.std.specs.List.{list_all}
 use Rattle.sharing.specs.declared.claim.Claim.{Claim}
 use Rattle.sharing.specs.Distinct.{distinct}
 
@@ -12,8 +13,7 @@ abbrev pub within_limits : Claim → Bool
 within_limits c = nat_le c.number 511 && (nat_le 1 c.lots && nat_le c.lots 1000000)
 
 abbrev pub all_within_limits : List Claim → Bool
-all_within_limits [] = true
-all_within_limits (c ∷ cs) = within_limits c && all_within_limits cs
+all_within_limits cs = list_all within_limits cs
 
 -- At most 512 claims, each within its limits, no number twice.
 abbrev pub admissible : List Claim → Bool

@@ -10,12 +10,7 @@ use super::refusal::Refusal;
 fn all_within_limits(claims: &[Claim]) -> bool
     ensures { result ≡ all_within_limits claims.now }
 {
-    for i in 0..claims.len() {
-        if !claims[i].is_within_limits() {
-            return false;
-        }
-    }
-    true
+    claims.iter().all(|claim| claim.is_within_limits())
 }
 
 // Whether the claims are such as an amount may be shared among.

@@ -4,7 +4,7 @@ ghost use Rattle.sharing.specs.Claims.{within_limits};
 use super::numbered::Numbered;
 
 // A claim to lots, under a number from 0 to 511.
-#[derive(Clone, Copy, PartialEq, Eq, Debug)]
+#[derive(Clone, Copy, PartialEq, Eq, Debug, Default)]
 pub struct Claim {
     pub number: u16,
     pub lots: u32,

@@ -1,4 +1,5 @@
 // The built-in ranks: each number from 0 to 511 is its own rank.
+// It is written out: a static is lent to a draw, and no function or loop computes one.
 pub static IDENTITY: [u16; 512] = [
     0, 1, 2, 3, 4, 5, 6, 7, 8, 9, 10, 11, 12, 13, 14, 15, 16, 17, 18, 19, 20, 21, 22, 23, 24, 25,
     26, 27, 28, 29, 30, 31, 32, 33, 34, 35, 36, 37, 38, 39, 40, 41, 42, 43, 44, 45, 46, 47, 48, 49,

@@ -12,7 +12,7 @@ pub enum Leftover {
 
 impl Leftover {
     // What a remainder counts for: nothing where rank alone decides.
-    pub fn weigh(self, remainder: u32) -> u32
+    pub(crate) fn weigh(self, remainder: u32) -> u32
         ensures { result ≡ weight self remainder }
     {
         match self {

@@ -7,7 +7,7 @@ use super::draw::Draw;
 use super::refusal::Refusal;
 
 // The draw that ranks a number by (stride × number + shift) modulo 512.
-#[derive(Drop)]
+#[derive(Clone, Copy, PartialEq, Eq, Debug)]
 pub struct StrideDraw {
     stride: u16,
     shift: u16,
@@ -38,6 +38,6 @@ impl Draw for StrideDraw {
 
     fn rank(&mut self, number: u16) -> u16 {
         let n = number.min(511);
-        ((self.stride as u32 * n as u32 + self.shift as u32) % 512) as u16
+        ((u32::from(self.stride) * u32::from(n) + u32::from(self.shift)) % 512) as u16
     }
 }

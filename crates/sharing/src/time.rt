@@ -17,8 +17,9 @@ fn fill(claims: &[Claim], amount: u32, shares: &mut [u32])
     ensures { shares.new ≡ in_turn claims.now amount }
 {
     let mut left = amount;
-    for i in 0..claims.len() {
-        let part = claims[i].lots.min(left);
+    // A share is written at its place: of what a zip with `shares.iter_mut()` writes, nothing is known.
+    for (i, claim) in claims.iter().enumerate() {
+        let part = claim.lots.min(left);
         shares[i] = part;
         left -= part;
     }

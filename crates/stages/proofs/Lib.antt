@@ -1,3 +1,2 @@
-pub mod Accounts
 pub mod Demands
 pub mod Ranges

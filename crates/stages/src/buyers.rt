@@ -1,6 +1,6 @@
 // What is asked of a list of buyers.
 ghost use Rattle.std.specs.Prelude.{◌≡◌, ◌≤◌, length};
-ghost use Rattle.stages.specs.Buyers.{has_account, account_twice, all_have_lots, demanded, buyers_fit, lots_fit, as_filed};
+ghost use Rattle.stages.specs.Buyers.{has_account, account_twice, all_have_lots, all_within, demanded, buyers_fit, lots_fit, as_filed};
 
 use super::kind::Kind;
 use super::particulars::Particulars;
@@ -10,22 +10,19 @@ use super::terms::Buyer;
 pub fn has_account(buyers: &[Buyer], account: u32) -> bool
     ensures { result ≡ has_account account buyers.now }
 {
-    for buyer in buyers {
-        if buyer.account == account {
-            return true;
-        }
-    }
-    false
+    buyers.iter().any(|buyer| buyer.account == account)
 }
 
 // Answers whether two of the buyers have one account.
 fn has_account_twice(buyers: &[Buyer]) -> bool
     ensures { result ≡ account_twice buyers.now }
 {
-    for i in 0..buyers.len() {
-        if has_account(&buyers[i + 1..], buyers[i].account) {
+    let mut rest = buyers;
+    while let Some((first, others)) = rest.split_first() {
+        if has_account(others, first.account) {
             return true;
         }
+        rest = others;
     }
     false
 }
@@ -34,12 +31,16 @@ fn has_account_twice(buyers: &[Buyer]) -> bool
 fn all_have_lots(buyers: &[Buyer]) -> bool
     ensures { result ≡ all_have_lots buyers.now }
 {
-    for buyer in buyers {
-        if buyer.lots == 0 {
-            return false;
-        }
-    }
-    true
+    buyers.iter().all(|buyer| buyer.lots >= 1)
+}
+
+// Answers whether each buyer asks for 1 to 1,000,000 lots.
+fn all_within(buyers: &[Buyer]) -> bool
+    ensures { result ≡ all_within buyers.now }
+{
+    buyers
+        .iter()
+        .all(|buyer| 1 <= buyer.lots && buyer.lots <= 1_000_000)
 }
 
 // Answers how many lots the buyers ask for together.
@@ -47,11 +48,7 @@ pub(crate) fn total(buyers: &[Buyer]) -> u64
     requires { length buyers.now ≤ 8 }
     ensures { result ≡ demanded buyers.now }
 {
-    let mut all = 0;
-    for buyer in buyers {
-        all += buyer.lots as u64;
-    }
-    all
+    buyers.iter().map(|buyer| u64::from(buyer.lots)).sum()
 }
 
 // Answers whether a tender of the kind may have so many buyers, no two of one account.
@@ -67,7 +64,7 @@ pub(crate) fn lots_fit(buyers: &[Buyer]) -> bool
     requires { length buyers.now ≤ 8 }
     ensures { result ≡ lots_fit buyers.now }
 {
-    all_have_lots(buyers) && total(buyers) <= 1_000_000
+    all_within(buyers) && total(buyers) <= 1_000_000
 }
 
 impl Particulars {
@@ -75,6 +72,8 @@ impl Particulars {
     pub fn as_filed(&self, buyers: &[Buyer]) -> bool
         ensures { result ≡ as_filed self.now buyers.now }
     {
-        buyers.len() == self.buyers && total(buyers) == self.demand as u64 && all_have_lots(buyers)
+        buyers.len() == self.buyers
+            && total(buyers) == u64::from(self.demand)
+            && all_have_lots(buyers)
     }
 }

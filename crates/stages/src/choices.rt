@@ -3,7 +3,7 @@ use super::kind::Kind;
 use super::method::Method;
 use super::shortfall::Shortfall;
 
-#[derive(Clone, Copy)]
+#[derive(Clone, Copy, PartialEq, Eq, Debug)]
 pub(crate) struct Choices {
     pub(crate) kind: Kind,
     pub(crate) method: Method,

@@ -1,7 +1,8 @@
 // Filing: terms and buyers are tested, and become a tender.
-ghost use Rattle.std.specs.Prelude.{◌≡◌, IfOk};
+ghost use Rattle.std.specs.Prelude.{◌≡◌, IfOk, ok_or};
 ghost use Rattle.stages.specs.Filing.{choices_at, ranges_fit, filing_code, AsFiled};
 ghost use Rattle.stages.specs.Register.{code_of};
+ghost use Rattle.stages.specs.declared.refusal.Refusal.{Refusal};
 
 use super::buyers::{buyers_fit, lots_fit, total};
 use super::choices::Choices;
@@ -14,16 +15,16 @@ use super::shortfall::Shortfall;
 use super::terms::{Buyer, Terms};
 
 // Answers the kind, method and shortfall of the terms, if they are known and go together.
-fn choices(terms: &Terms) -> Option<Choices>
-    ensures { result ≡ choices_at terms.now }
+fn choices(terms: &Terms) -> Result<Choices, Refusal>
+    ensures { result ≡ ok_or (choices_at terms.now) Refusal.Term }
 {
-    let kind = Kind::from_letter(terms.kind)?;
-    let method = Method::from_number(terms.method)?;
-    let shortfall = Shortfall::from_letter(terms.shortfall)?;
+    let kind = Kind::try_from(terms.kind)?;
+    let method = Method::try_from(terms.method)?;
+    let shortfall = Shortfall::try_from(terms.shortfall)?;
     if !kind.allows(method, shortfall) {
-        return None;
+        return Err(Refusal::Term);
     }
-    Some(Choices {
+    Ok(Choices {
         kind,
         method,
         shortfall,
@@ -34,12 +35,9 @@ fn choices(terms: &Terms) -> Option<Choices>
 fn ranges_fit(terms: &Terms) -> bool
     ensures { result ≡ ranges_fit terms.now }
 {
-    1 <= terms.unit
-        && terms.unit <= 1_000
-        && 1 <= terms.previous_close
-        && terms.previous_close <= 800_000
-        && 55_800 <= terms.bank_closing
-        && terms.bank_closing <= 86_399
+    (1..=1_000).contains(&terms.unit)
+        && (1..=800_000).contains(&terms.previous_close)
+        && (55_800..=86_399).contains(&terms.bank_closing)
 }
 
 // Files a tender for the buyers, or refuses it.
@@ -47,9 +45,7 @@ pub fn file(terms: &Terms, buyers: &[Buyer]) -> Result<Filed, Refusal>
     ensures code { code_of result ≡ filing_code terms.now buyers.now }
     ensures state { IfOk result (λ f. AsFiled terms.now buyers.now f.particulars) }
 {
-    let Some(choices) = choices(terms) else {
-        return Err(Refusal::Term);
-    };
+    let choices = choices(terms)?;
     if !ranges_fit(terms) {
         return Err(Refusal::Term);
     }

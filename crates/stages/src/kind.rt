@@ -1,18 +1,21 @@
 // The kinds of tender, and what is fixed for each.
-ghost use Rattle.std.specs.Prelude.{◌≡◌};
+ghost use Rattle.std.specs.Prelude.{◌≡◌, [], ◌∷◌, Some, ok_or};
+ghost use Rattle.stages.specs.declared.refusal.Refusal.{Refusal};
 ghost use Rattle.stages.specs.Kinds.{row_of, kind_at, allows, open_at, over_at};
 
 use super::method::Method;
+use super::refusal::Refusal;
 use super::shortfall::Shortfall;
+use std::fmt;
 
-#[derive(Clone, Copy)]
+#[derive(Clone, Copy, PartialEq, Eq, Debug)]
 pub enum Kind {
     General,
     Financing,
 }
 
 // What is fixed for a kind.
-#[derive(Clone, Copy)]
+#[derive(Clone, Copy, PartialEq, Eq, Debug)]
 pub struct KindRow {
     pub letter: u8,
     // the first and the last second of its window
@@ -53,28 +56,14 @@ impl Kind {
         }
     }
 
-    // Answers the kind with the letter, if there is one.
-    pub fn from_letter(letter: u8) -> Option<Kind>
-        ensures { result ≡ kind_at letter }
-    {
-        if letter == Kind::General.row().letter {
-            Some(Kind::General)
-        } else if letter == Kind::Financing.row().letter {
-            Some(Kind::Financing)
-        } else {
-            None
-        }
-    }
-
     // Answers whether a tender of the kind may have the method and the shortfall.
     pub(crate) fn allows(self, method: Method, shortfall: Shortfall) -> bool
         ensures { result ≡ allows self method shortfall }
     {
-        match (self, method, shortfall) {
-            (Kind::General, _, _) => true,
-            (Kind::Financing, Method::AsOffered, Shortfall::Take) => true,
-            _ => false,
-        }
+        matches!(
+            (self, method, shortfall),
+            (Kind::General, _, _) | (Kind::Financing, Method::AsOffered, Shortfall::Take)
+        )
     }
 
     // Answers whether the time is in the window.
@@ -82,7 +71,7 @@ impl Kind {
         ensures { result ≡ open_at self time }
     {
         let row = self.row();
-        row.opens <= time && time <= row.ends
+        (row.opens..=row.ends).contains(&time)
     }
 
     // Answers whether the time is after the window, and within the day.
@@ -90,5 +79,29 @@ impl Kind {
         ensures { result ≡ over_at self time }
     {
         self.row().ends < time && time <= DAY_ENDS
+    }
+}
+
+// Reads a kind by its letter.
+impl TryFrom<u8> for Kind {
+    type Error = Refusal;
+
+    ghost try_from_gives = { λ letter r. r ≡ ok_or (kind_at letter) Refusal.Term };
+
+    fn try_from(letter: u8) -> Result<Self, Refusal> {
+        match letter {
+            b'G' => Ok(Kind::General),
+            b'F' => Ok(Kind::Financing),
+            _ => Err(Refusal::Term),
+        }
+    }
+}
+
+// Writes a kind by its letter.
+impl fmt::Display for Kind {
+    ghost output = { λ kind. Some ((row_of kind).letter ∷ []) };
+
+    fn fmt<W: fmt::Write>(&self, f: &mut fmt::Formatter<W>) -> fmt::Result {
+        f.write_char(char::from(self.row().letter))
     }
 }

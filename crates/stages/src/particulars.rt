@@ -5,7 +5,7 @@ use super::kind::Kind;
 use super::method::Method;
 use super::shortfall::Shortfall;
 
-#[derive(Clone, Copy)]
+#[derive(Clone, Copy, PartialEq, Eq, Debug)]
 pub struct Particulars {
     pub kind: Kind,
     pub method: Method,

@@ -2,38 +2,39 @@
 ghost use Rattle.std.specs.Prelude.{◌≡◌};
 ghost use Rattle.stages.specs.Register.{number_of};
 
+// Each refusal has its number in the register.
 #[derive(Clone, Copy, PartialEq, Eq, Debug)]
 pub enum Refusal {
     // filing: a term is outside its range, or terms do not go together
-    Term,
+    Term = 1,
     // filing: the wrong number of buyers, or two of one account
-    Accounts,
+    Accounts = 2,
     // filing: a buyer's lots, or those of all, are outside their range
-    Demand,
+    Demand = 3,
     // opening: the base price is outside its span
-    BasePrice,
+    BasePrice = 4,
     // entry, change, cancellation: the time is outside the window
-    OutsideWindow,
+    OutsideWindow = 5,
     // entry, change, cancellation: the time is before the latest accepted call
-    BeforeLatest,
+    BeforeLatest = 6,
     // entry, change: the price is 0 or above the base price
-    Price,
+    Price = 7,
     // entry, change: the lots are 0 or above 1,000,000
-    Lots,
+    Lots = 8,
     // entry: the account is a buyer's
-    BuyerAccount,
+    BuyerAccount = 9,
     // entry: 512 were accepted already
-    Full,
+    Full = 10,
     // change, cancellation: no such offer stands
-    NoOffer,
+    NoOffer = 11,
     // change, cancellation: the offer is another member's
-    OtherMember,
+    OtherMember = 12,
     // closing: the window is not over, or the day is
-    Closing,
+    Closing = 13,
     // a place for a book, entry: not 512 records
-    Place,
+    Place = 14,
     // entry: the buyers handed over are not those filed
-    OtherBuyers,
+    OtherBuyers = 15,
 }
 
 impl Refusal {
@@ -41,22 +42,6 @@ impl Refusal {
     pub fn number(self) -> u8
         ensures { result ≡ number_of self }
     {
-        match self {
-            Refusal::Term => 1,
-            Refusal::Accounts => 2,
-            Refusal::Demand => 3,
-            Refusal::BasePrice => 4,
-            Refusal::OutsideWindow => 5,
-            Refusal::BeforeLatest => 6,
-            Refusal::Price => 7,
-            Refusal::Lots => 8,
-            Refusal::BuyerAccount => 9,
-            Refusal::Full => 10,
-            Refusal::NoOffer => 11,
-            Refusal::OtherMember => 12,
-            Refusal::Closing => 13,
-            Refusal::Place => 14,
-            Refusal::OtherBuyers => 15,
-        }
+        self as u8
     }
 }

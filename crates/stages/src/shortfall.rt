@@ -1,8 +1,12 @@
 // What happens where the offers are fewer than the demand.
-ghost use Rattle.std.specs.Prelude.{◌≡◌};
+ghost use Rattle.std.specs.Prelude.{◌≡◌, [], ◌∷◌, Some, ok_or};
+ghost use Rattle.stages.specs.declared.refusal.Refusal.{Refusal};
 ghost use Rattle.stages.specs.Kinds.{shortfall_letter, shortfall_at};
 
-#[derive(Clone, Copy)]
+use super::refusal::Refusal;
+use std::fmt;
+
+#[derive(Clone, Copy, PartialEq, Eq, Debug)]
 pub enum Shortfall {
     Take,
     Void,
@@ -18,17 +22,28 @@ impl Shortfall {
             Shortfall::Void => b'V',
         }
     }
+}
 
-    // Answers the shortfall with the letter, if there is one.
-    pub fn from_letter(letter: u8) -> Option<Shortfall>
-        ensures { result ≡ shortfall_at letter }
-    {
-        if letter == Shortfall::Take.letter() {
-            Some(Shortfall::Take)
-        } else if letter == Shortfall::Void.letter() {
-            Some(Shortfall::Void)
-        } else {
-            None
+// Reads a shortfall by its letter.
+impl TryFrom<u8> for Shortfall {
+    type Error = Refusal;
+
+    ghost try_from_gives = { λ letter r. r ≡ ok_or (shortfall_at letter) Refusal.Term };
+
+    fn try_from(letter: u8) -> Result<Self, Refusal> {
+        match letter {
+            b'T' => Ok(Shortfall::Take),
+            b'V' => Ok(Shortfall::Void),
+            _ => Err(Refusal::Term),
         }
+    }
+}
+
+// Writes a shortfall by its letter.
+impl fmt::Display for Shortfall {
+    ghost output = { λ shortfall. Some (shortfall_letter shortfall ∷ []) };
+
+    fn fmt<W: fmt::Write>(&self, f: &mut fmt::Formatter<W>) -> fmt::Result {
+        f.write_char(char::from(self.letter()))
     }
 }

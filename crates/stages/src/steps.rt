@@ -15,9 +15,9 @@ impl Particulars {
         ensures { result ≡ accepts_base self.now base }
     {
         let row = self.kind.row();
-        let close = self.previous_close as u64;
-        let price = 100 * base as u64;
-        row.least as u64 * close <= price && price <= row.most as u64 * close
+        let close = u64::from(self.previous_close);
+        let price = 100 * u64::from(base);
+        u64::from(row.least) * close <= price && price <= u64::from(row.most) * close
     }
 }
 

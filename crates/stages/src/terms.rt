@@ -1,8 +1,9 @@
 // What is handed over for filing, not yet trusted.
 
 // The terms of a tender.
-#[derive(Clone, Copy)]
+#[derive(Clone, Copy, PartialEq, Eq, Debug)]
 pub struct Terms {
+    // The kind, method and shortfall stand as they are handed over: filing refuses what is none, and asks no more of callers.
     // the letter of the kind
     pub kind: u8,
     // the number of the method
@@ -18,7 +19,7 @@ pub struct Terms {
 }
 
 // A buyer, and the lots that it asks for.
-#[derive(Clone, Copy)]
+#[derive(Clone, Copy, PartialEq, Eq, Debug, Default)]
 pub struct Buyer {
     pub account: u32,
     pub lots: u32,

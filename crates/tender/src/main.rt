@@ -1,30 +1,22 @@
 // Runs the tender of a file, and prints its log line, or the line of the fault that the file comes to.
 #![tactic(auto)]
 
-ghost use Rattle.command.specs.Ending.{Concludes};
+ghost use Rattle.std.specs.Prelude.{◌≡◌};
+ghost use Rattle.std.specs.Process.{exit_status};
+ghost use Rattle.command.specs.Ending.{Printed};
 ghost use Rattle.lines.specs.Log.{line_of};
 
-use command::{Failure, print_answer, read_input, told};
-use lines::answer_line;
+use command::run;
+use lines::LogLine;
 use std::process::ExitCode;
 
-// Answers the file.
-fn conclude(rt: &HostRuntime, file: &[u8]) -> Result<(), Failure>
-    ensures { Concludes line_of file.now result }
+// Answers the input by its log line.
+fn answer(rt: &HostRuntime) -> ExitCode
+    ensures { exit_status result ≡ 0 → Printed line_of }
 {
-    let answer = answer_line(rt.alloc(), file)?;
-    print_answer(rt, &answer)
-}
-
-// Reads the input, and answers it.
-fn run(rt: &HostRuntime) -> Result<(), Failure> {
-    let file = read_input(rt)?;
-    conclude(rt, file.as_slice())
+    run::<LogLine>(rt, "tender")
 }
 
 fn main(rt: HostRuntime) -> ExitCode {
-    match told(&rt, "tender", run(&rt)) {
-        Ok(()) => ExitCode::SUCCESS,
-        Err(_) => ExitCode::FAILURE,
-    }
+    answer(&rt)
 }

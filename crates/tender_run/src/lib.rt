@@ -4,7 +4,9 @@
 mod by_kind;
 mod calls;
 mod running;
+mod session;
 mod standing;
 
 pub use by_kind::run_by_kind;
 pub use running::{Outcome, run};
+pub use session::Session;

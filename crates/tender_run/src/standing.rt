@@ -10,23 +10,17 @@ pub(crate) fn copy_standing(book: &Book, offers: &mut [Offer]) -> usize
     ensures count { result ≡ length (model_of book.now).list }
     ensures front { take (length (model_of book.now).list) offers.new ≡ (model_of book.now).list }
 {
-    let n = book.len();
-    for i in 0..n {
-        if let Some(offer) = book.offer(i) {
-            offers[i] = offer;
-        }
-    }
-    n
+    let standing = book.offers();
+    offers[..standing.len()].copy_from_slice(standing);
+    standing.len()
 }
 
 // Writes the first `n` offers to the records that a book was lent. They stand there already: it is written since a proof does
-// not follow what a book makes of the records lent to it.
+// not follow what a book makes of the records lent to it. Tried: a loan through two structs does not come back to the lender.
 pub(crate) fn write_back(offers: &[Offer], n: usize, records: &mut [Offer])
     requires there { n ≤ length offers.now }
     requires room { n ≤ length records.old }
     ensures { take n records.new ≡ take n offers.now }
 {
-    for i in 0..n {
-        records[i] = offers[i];
-    }
+    records[..n].copy_from_slice(&offers[..n]);
 }

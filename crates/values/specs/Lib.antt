@@ -1,2 +1,5 @@
 pub mod Fields
 pub mod Values
+pub mod Spelling
+pub mod Decoding
+pub mod Encoding

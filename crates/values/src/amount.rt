@@ -1,25 +1,30 @@
 // A number of four bytes, as a value: the base price at the opening, or the time of the close.
-ghost use Rattle.std.specs.Prelude.{◌≡◌, Some};
-ghost use Rattle.values.specs.Fields.{Decoded, Word, four_bytes};
+ghost use Rattle.std.proofs.Common.{lit≤};
+ghost use Rattle.values.specs.Fields.{four_bytes, Word};
 ghost use Rattle.values.specs.Values.{amount_in};
+ghost use Rattle.values.specs.Decoding.{amount_whole};
+ghost use Rattle.values.specs.Encoding.{amount_there};
 
-use super::fields::four_at;
+use super::value::Value;
 
-// Answers the number that a value says, if it has four bytes.
-pub fn amount_in(value: &[u8]) -> Option<u32>
-    ensures reads { result ≡ amount_in value.now }
-    ensures back { Decoded 4 four_bytes Word value.now result }
-{
-    if value.len() != 4 {
-        return None;
+impl Value<4> for u32 {
+    ghost value_in = { amount_in };
+
+    ghost bytes_of = { four_bytes };
+
+    ghost fits = { Word };
+
+    ghost whole = { amount_whole };
+
+    ghost there = { amount_there };
+
+    ghost narrow = { lit≤ tt };
+
+    fn from_bytes(bytes: &[u8; 4]) -> u32 {
+        u32::from_be_bytes(*bytes)
     }
-    Some(four_at(value, 0))
-}
 
-// Answers the value of the number.
-pub fn amount_bytes(amount: u32) -> [u8; 4]
-    ensures bytes { result ≡ four_bytes amount }
-    ensures back { amount_in result ≡ Some amount }
-{
-    amount.to_be_bytes()
+    fn to_bytes(&self) -> [u8; 4] {
+        self.to_be_bytes()
+    }
 }

@@ -1,37 +1,42 @@
 // The numbers of a stride draw, as a value.
-ghost use Rattle.std.specs.Prelude.{◌≡◌, Some};
-ghost use Rattle.values.specs.Fields.{Decoded};
+ghost use Rattle.std.proofs.Common.{lit≤};
 ghost use Rattle.values.specs.Values.{draw_bytes, draw_in, DrawFits};
+ghost use Rattle.values.specs.Decoding.{draw_whole};
+ghost use Rattle.values.specs.Encoding.{draw_there};
 
 use super::fields::two_at;
+use super::value::Value;
 
 // The stride and the shift of a draw, not yet trusted.
-#[derive(Clone, Copy)]
+#[derive(Clone, Copy, PartialEq, Eq, Debug, Default)]
 pub struct DrawNumbers {
     pub stride: u16,
     pub shift: u16,
 }
 
-// Answers the numbers that a value says, if it has their length.
-pub fn draw_in(value: &[u8]) -> Option<DrawNumbers>
-    ensures reads { result ≡ draw_in value.now }
-    ensures back { Decoded 4 draw_bytes DrawFits value.now result }
-{
-    if value.len() != 4 {
-        return None;
-    }
-    Some(DrawNumbers {
-        stride: two_at(value, 0),
-        shift: two_at(value, 2),
-    })
-}
+impl Value<4> for DrawNumbers {
+    ghost value_in = { draw_in };
 
-// Answers the value of the numbers.
-pub fn draw_bytes(draw: &DrawNumbers) -> [u8; 4]
-    ensures bytes { result ≡ draw_bytes draw.now }
-    ensures back { draw_in result ≡ Some draw.now }
-{
-    let stride = draw.stride.to_be_bytes();
-    let shift = draw.shift.to_be_bytes();
-    [stride[0], stride[1], shift[0], shift[1]]
+    ghost bytes_of = { draw_bytes };
+
+    ghost fits = { DrawFits };
+
+    ghost whole = { draw_whole };
+
+    ghost there = { draw_there };
+
+    ghost narrow = { lit≤ tt };
+
+    fn from_bytes(bytes: &[u8; 4]) -> DrawNumbers {
+        DrawNumbers {
+            stride: two_at(bytes, 0),
+            shift: two_at(bytes, 2),
+        }
+    }
+
+    fn to_bytes(&self) -> [u8; 4] {
+        let stride = self.stride.to_be_bytes();
+        let shift = self.shift.to_be_bytes();
+        [stride[0], stride[1], shift[0], shift[1]]
+    }
 }

@@ -1,4 +1,5 @@
-// Numbers and codes in the bytes of a value, the high byte first.
+// Numbers and codes in the bytes of a value, the high byte first. Two and four bytes have a function each: the library has no trait
+// of `from_be_bytes`, and one of ours would be longer than both.
 ghost use Rattle.std.specs.Prelude.{◌≡◌, ◌+◌, ◌≤◌, length};
 ghost use Rattle.values.specs.Fields.{two_at, four_at, code_at};
 

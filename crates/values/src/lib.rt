@@ -9,11 +9,7 @@ pub mod draw;
 pub mod entry;
 pub(crate) mod fields;
 pub mod terms;
+pub mod value;
 
-pub use amount::{amount_bytes, amount_in};
-pub use buyer::{buyer_bytes, buyer_in};
-pub use cancellation::{cancellation_bytes, cancellation_in};
-pub use change::{change_bytes, change_in};
-pub use draw::{DrawNumbers, draw_bytes, draw_in};
-pub use entry::{entry_bytes, entry_in};
-pub use terms::{terms_bytes, terms_in};
+pub use draw::DrawNumbers;
+pub use value::Value;

@@ -1,13 +1,10 @@
-use Rattle.std.proofs.Common.{◌≡◌, ℕ, ◌+◌, ◌-◌, length, get_or, take, drop, sym, refl, ap, ◌∙◌, arith}
+use Rattle.std.proofs.Common.{◌≡◌, ℕ, ◌+◌, ◌-◌, get_or, sym, ap, ◌∙◌, arith}
 use Rattle.std.proofs.lemmas.List.Sums.{sum_by_more, sum_by-take-le}
 use Rattle.allotment_theory.specs.Receipts.{part}
-use Rattle.allotment_theory.proofs.Telescope.{part_le, part_none}
+use Rattle.allotment_theory.proofs.Telescope.{part_le}
 use Rattle.allotment.specs.declared.pay.BuyerRow.{BuyerRow}
-use Rattle.allotment.proofs.Buyers.{step, done, below_kept}
+use Rattle.allotment.proofs.Buyers.{step, below_kept}
 use Rattle.allotment.proofs.pay.write_rows.Goals as goal
-
-pub loop-i-init : goal.loop-i-init
-loop-i-init c = (refl, λ h. (refl, sym (part_none c.args.receipts c.args.due), refl))
 
 pub loop-i-preserved : goal.loop-i-preserved
 loop-i-preserved c =
@@ -32,16 +29,3 @@ loop-i-preserved c =
           let rest = was.2 in
           (omega (arith, was.0), next ∙ sym at, cc),
     )
-
-pub returns : goal.returns
-returns c =
-    let n = length c.args.lots.now in
-    let i = c.loop-i.i in
-    let is : i ≡ n = omega arith in
-    record {
-      front = λ h.
-          ap (λ (k : ℕ). take k c.loop-i.rows) (sym is)
-          ∙ sym (done c.args.receipts c.args.due c.args.billed c.args.lots.now c.loop-i.rows i c.loop-i.before (omega arith))
-          ∙ (c.loop-i.invariant.1 h).2;
-      back = ap (λ (k : ℕ). drop k c.loop-i.rows) (sym is) ∙ c.loop-i.invariant.0 ∙ ap (λ (k : ℕ). drop k c.args.rows.now) is;
-    }

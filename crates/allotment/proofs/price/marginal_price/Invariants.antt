@@ -1,7 +1,6 @@
 use Rattle.std.proofs.Common.{◌≡◌, drop}
-use Rattle.book.specs.Model.{model_of}
 use Rattle.allotment_theory.specs.Offered.{reaching}
 use Rattle.allotment.proofs.price.marginal_price.Given as goal
 
-abbrev pub invariant-loop-i : goal.invariant-loop-i
-invariant-loop-i l = reaching l.left (drop l.i (model_of l.book).list) ≡ reaching l.due (model_of l.book).list
+abbrev pub invariant-loop-offer : goal.invariant-loop-offer
+invariant-loop-offer l = reaching l.left (drop l.offer-index l.offer-items) ≡ reaching l.due l.offer-items

@@ -1,26 +1,24 @@
-use Rattle.std.proofs.Common.{◌≡◌, true, false, eqb, get_or, sym, ap, ◌∙◌, arith}
-use Rattle.std.proofs.lemmas.Bool.Decides.{nat_tests}
-use Rattle.std.proofs.lemmas.List.{drop_all}
-use Rattle.std.proofs.lemmas.Bool.{cond-true, cond-false}
-use Rattle.frames.specs.Layouts.{length_in}
-use Rattle.frames.proofs.Known.{no_layout, known_more}
+use Rattle.std.proofs.Common.{◌≡◌, eqb, None, Some, sym, ap, ◌∙◌, rules}
+use borrow.Author.Tests.{tests}
+use Rattle.std.specs.Option.{option_map}
+use Rattle.std.proofs.lemmas.Iterator.{YieldsList-from_slice}
+use Rattle.std.proofs.lemmas.Iterator.Search.{find_from_yields_List}
+use Rattle.frames.proofs.Known.{first_found}
 use Rattle.frames.proofs.layout.length_in.Goals as goal
 
-pub returns-then-layout-tag : goal.returns-then-layout-tag
-returns-then-layout-tag c =
+pub returns-in_err-layout : goal.returns-in_err-layout
+returns-in_err-layout c =
     let ls = c.args.layouts.now in
-    let i = c.loop-layout.layout-index in
-    let here : eqb (get_or ls i no_layout).tag c.args.tag ≡ true = grind (arith, nat_tests) in
-    sym (c.loop-layout.invariant ∙ known_more ls i c.args.tag c.loop-layout-test.true ∙ cond-true _ _ _ here)
-
-pub loop-layout-preserved : goal.loop-layout-preserved
-loop-layout-preserved c =
-    let ls = c.args.layouts.now in
-    let i = c.loop-layout.layout-index in
-    let other : eqb (get_or ls i no_layout).tag c.args.tag ≡ false = grind (arith, nat_tests) in
-    c.loop-layout.invariant ∙ known_more ls i c.args.tag c.loop-layout-test.true ∙ cond-false _ _ _ other
+    let tag = c.args.tag in
+    let looked = find_from_yields_List (λ l. eqb l.tag tag) _ _ c.find.result c.find.ensures.ran (YieldsList-from_slice ls c.iter.ensures.rest) (λ x b q k. search (rules, tests)) in
+    let none : c.find.result ≡ None = search rules in
+    let left : c.from_residual.result ≡ None = search rules in
+    left ∙ ap (option_map (λ l. l.length)) (ap (option_map (λ r. r.now)) (sym none) ∙ looked) ∙ first_found ls tag
 
 pub returns : goal.returns
 returns c =
     let ls = c.args.layouts.now in
-    sym (c.loop-layout.invariant ∙ ap (λ l. length_in l c.args.tag) (drop_all c.loop-layout.layout-index ls c.loop-layout-test.false))
+    let tag = c.args.tag in
+    let looked = find_from_yields_List (λ l. eqb l.tag tag) _ _ c.find.result c.find.ensures.ran (YieldsList-from_slice ls c.iter.ensures.rest) (λ x b q k. search (rules, tests)) in
+    let some : c.find.result ≡ Some c.in_ok-layout.layout = search rules in
+    ap (option_map (λ l. l.length)) (ap (option_map (λ r. r.now)) (sym some) ∙ looked) ∙ first_found ls tag

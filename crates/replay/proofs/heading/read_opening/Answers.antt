@@ -1,12 +1,13 @@
-use Rattle.std.proofs.Common.{subst}
-use Rattle.replay.specs.Heading.{StepOpened}
+use Rattle.std.proofs.Common.{◌≡◌, MatchResult, subst, rules}
+use Rattle.stages.specs.Steps.{opening_code}
+use Rattle.replay.specs.Heading.{Refused}
 use Rattle.replay.proofs.Heads.{opened}
 use Rattle.replay.proofs.heading.read_opening.Goals as goal
 
-pub returns : goal.returns
-returns c =
-    let base = c.in_ok-opening.ensures.read in
-    record {
-      opened = opened _ _ _ _ _ c.open_at.result base.1 (subst (λ place. StepOpened c.args.filed.particulars c.in_ok-opening.opening.0 place c.open_at.result) base.0 c.open_at.ensures);
-      file = c.read_base.ensures.file;
-    }
+pub returns-clause-opened : goal.returns-clause-opened
+returns-clause-opened c =
+    let o = c.in_ok-base.field-0 in
+    let p = c.args.filed.particulars in
+    let read = c.in_ok-base.ensures.read in
+    let step : MatchResult c.map_err.result (λ t. (opening_code p o.base ≡ 0) × (t.particulars ≡ p) × (t.base ≡ o.base)) (λ e. Refused (opening_code p o.base) o.place e) = search rules in
+    opened _ _ _ _ _ _ read.1 (subst (λ place. MatchResult c.map_err.result (λ t. (opening_code p o.base ≡ 0) × (t.particulars ≡ p) × (t.base ≡ o.base)) (λ e. Refused (opening_code p o.base) place e)) read.0 step)

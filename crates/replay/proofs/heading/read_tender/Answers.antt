@@ -1,47 +1,43 @@
-use Rattle.std.proofs.Common.{◌∙◌, arith}
+use Rattle.std.proofs.Common.{◌≡◌, rules}
 use Rattle.std.proofs.lemmas.Result.{err_from_is_err_and}
+use Rattle.stages.specs.Filing.{AsFiled, filing_code}
+use Rattle.sharing.specs.Draws.{stride_code}
+use Rattle.replay.specs.Heading.{Refused}
 use Rattle.replay.proofs.Heads.{drawn, filed_for, not_drawn, not_filed}
 use Rattle.replay.proofs.heading.read_tender.Goals as goal
 
-pub returns-in_err-filed : goal.returns-in_err-filed
-returns-in_err-filed c =
+pub returns-in_err-filed-clause-headed : goal.returns-in_err-filed-clause-headed
+returns-in_err-filed-clause-headed c =
     let p = err_from_is_err_and c.from_residual-in_err-filed.result c.from_residual-in_err-filed.ensures.1 in
-    rw (p.1, p.2) (record {
-      headed =
-          not_filed _ _ _ _ _ _ _ _ _ _ c.read_terms.ensures.file c.in_ok-terms.ensures.read.0
-          (c.in_ok-heading.ensures.read.1 c.in_ok-terms.terms) c.in_err-filed.ensures;
-      file = c.read_buyers.ensures.file ∙ c.read_terms.ensures.file;
-    })
+    let h = c.in_ok-buyers.field-0 in
+    let refused : Refused (filing_code c.in_ok-terms.terms h.buyers.items) h.place c.in_err-filed.field-0.0 = search rules in
+    rw (p.1, p.2)
+    (not_filed _ _ _ _ _ _ _ _ _ _ c.read_terms.ensures.file c.in_ok-terms.ensures.read.0 (c.in_ok-buyers.ensures.read c.in_ok-terms.terms) refused)
 
-pub returns-in_err-draw : goal.returns-in_err-draw
-returns-in_err-draw c =
+pub returns-in_err-draw-clause-headed : goal.returns-in_err-draw-clause-headed
+returns-in_err-draw-clause-headed c =
     let p = err_from_is_err_and c.from_residual-in_err-draw.result c.from_residual-in_err-draw.ensures.1 in
-    rw (p.1, p.2) (record {
-      headed =
-          not_drawn _ _ _ _ _ _ _ _ _ _ c.read_terms.ensures.file c.in_ok-terms.ensures.read.0
-          (c.in_ok-heading.ensures.read.1 c.in_ok-terms.terms) c.in_ok-filed.ensures.0 c.in_err-draw.ensures;
-      file = c.read_buyers.ensures.file ∙ c.read_terms.ensures.file;
-    })
+    let h = c.in_ok-buyers.field-0 in
+    let passed : filing_code c.in_ok-terms.terms h.buyers.items ≡ 0 = search rules in
+    let refused : Refused (stride_code h.draw.stride h.draw.shift) h.place c.in_err-draw.field-0.0 = search rules in
+    rw (p.1, p.2)
+    (not_drawn _ _ _ _ _ _ _ _ _ _ c.read_terms.ensures.file c.in_ok-terms.ensures.read.0 (c.in_ok-buyers.ensures.read c.in_ok-terms.terms) passed refused)
 
-pub returns : goal.returns
-returns c =
-    let f = c.in_ok-filed.ensures in
-    let s = c.in_ok-draw.ensures in
-    let second = c.in_ok-second.ensures in
+pub returns-clause-headed : goal.returns-clause-headed
+returns-clause-headed c =
+    let t = c.in_ok-terms.terms in
+    let h = c.in_ok-buyers.field-0 in
+    let d = c.in_ok-draw.draw in
+    let passed : filing_code t h.buyers.items ≡ 0 = search rules in
+    let filed : AsFiled t h.buyers.items c.in_ok-filed.filed.particulars = search rules in
+    let fair : stride_code h.draw.stride h.draw.shift ≡ 0 = search rules in
+    let made : (d.stride ≡ h.draw.stride) × (d.shift ≡ h.draw.shift) = search rules in
     record {
-      headed = record {
-        terms = c.in_ok-terms.terms;
-        numbers = c.in_ok-heading.heading.draw;
-        filed = f.1;
-        as_filed_for = filed_for _ _ _ f.0 f.1;
-        few = omega (arith, c.in_ok-heading.ensures.read.0, c.read_buyers.ensures.room);
-        stride = s.1;
-        shift = s.2;
-        second_stride = second.1;
-        second_shift = second.2;
-        leads =
-            drawn _ _ _ _ _ _ _ _ _ c.read_terms.ensures.file c.in_ok-terms.ensures.read.0
-            (c.in_ok-heading.ensures.read.1 c.in_ok-terms.terms) f.0 s.0;
-      };
-      file = c.read_buyers.ensures.file ∙ c.read_terms.ensures.file;
+      terms = t;
+      numbers = h.draw;
+      filed = filed;
+      as_filed_for = filed_for _ _ _ passed filed;
+      stride = made.0;
+      shift = made.1;
+      leads = drawn _ _ _ _ _ _ _ _ _ c.read_terms.ensures.file c.in_ok-terms.ensures.read.0 (c.in_ok-buyers.ensures.read t) passed fair;
     }

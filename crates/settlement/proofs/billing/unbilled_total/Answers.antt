@@ -1,22 +1,18 @@
-use Rattle.std.proofs.Common.{ap, ◌∙◌, subst, arith}
-use Rattle.std.proofs.lemmas.List.{take_all}
-use Rattle.std.proofs.lemmas.List.Sums.{sum_by_more}
-use Rattle.allotment.specs.Rows.{no_row}
+use Rattle.std.proofs.Common.{rules, ◌≡◌, ℕ, ◌+◌, fold, refl, ap, ◌∙◌, subst, zero-add}
+use Rattle.std.proofs.iter.runs.Made.{chains}
 use Rattle.book.specs.Offers.{capped}
+use Rattle.allotment.proofs.Totals.{capped_fold}
+use Rattle.allotment.specs.declared.pay.BuyerRow.{BuyerRow}
 use Rattle.settlement.specs.Bills.{owed, SlipsTotal, unbilled}
 use Rattle.settlement.proofs.Tenders.{financing_total, general_none}
 use Rattle.settlement.proofs.Totals.{all_billed}
 use Rattle.settlement.proofs.billing.unbilled_total.Goals as goal
 
-pub loop-row-preserved : goal.loop-row-preserved
-loop-row-preserved c =
-    let more = sum_by_more owed c.args.rows.now c.loop-row.row-index no_row c.loop-row-test.true in
-    omega (arith, more, c.loop-row.invariant, c.still_owed.ensures, c.saturating_add-all.ensures)
-
 pub returns : goal.returns
 returns c =
     let rows = c.args.rows.now in
-    let total = c.loop-row.invariant ∙ ap (λ l. capped (unbilled l)) (take_all c.loop-row.row-index rows c.loop-row-test.false) in
+    let counted : c.fold.result ≡ fold (λ (all : ℕ) (row : BuyerRow). capped (all + owed row)) 0 rows = search (rules, chains) in
+    let total = counted ∙ capped_fold owed owed (λ row. refl) rows 0 0 refl ∙ ap capped (zero-add (unbilled rows)) in
     record {
       total = total;
       slips = all_billed rows;

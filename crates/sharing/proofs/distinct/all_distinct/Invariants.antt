@@ -1,12 +1,9 @@
-use Rattle.std.proofs.Common.{◌≡◌, ℕ, ◌<◌, map, get_or}
+use Rattle.std.proofs.Common.{◌≡◌, map, length}
+use Rattle.sharing.specs.Distinct.{distinct}
 use Rattle.sharing.proofs.distinct.all_distinct.Given as goal
 
-abbrev pub invariant-loop-i : goal.invariant-loop-i
-invariant-loop-i g l =
-    let numbers = map g.T.Numbered.numbered l.items in
-    (j : ℕ) → j < l.i → (i : ℕ) → i < j → get_or numbers i 0 ≡ get_or numbers j 0 → ⊥
+abbrev pub invariant-loop-rest : goal.invariant-loop-rest
+invariant-loop-rest g l = distinct (map g.T.Numbered.numbered l.items) ≡ distinct (map g.T.Numbered.numbered l.rest)
 
-abbrev pub invariant-loop-j : goal.invariant-loop-j
-invariant-loop-j g l =
-    let numbers = map g.T.Numbered.numbered l.items in
-    (i : ℕ) → i < l.j → get_or numbers i 0 ≡ l.number → ⊥
+abbrev pub decreases-loop-rest : goal.decreases-loop-rest
+decreases-loop-rest g l = length l.rest

@@ -1,20 +1,12 @@
-use Rattle.std.proofs.Common.{refl, rules}
-use Rattle.std.proofs.lemmas.Result.{err_from_is_err_and}
-use Rattle.messages.proofs.Placing.{placed_fault, placed_next}
+use Rattle.std.proofs.Common.{◌≡◌, Some, refl, subst, Option, rules}
+use Rattle.messages.specs.declared.message.Message.{Message}
+use Rattle.messages.specs.Reading.{Says}
+use Rattle.messages.proofs.Placing.{placed_next}
 use Rattle.messages.proofs.reader.MessageReader.next.Goals as goal
 
-pub returns-in_err-frame : goal.returns-in_err-frame
-returns-in_err-frame c =
-    let p = err_from_is_err_and c.from_residual.result c.from_residual.ensures.1 in
-    record {
-      next = rw (p.1, p.2) (placed_fault _ _ _ _ c.in_err-frame.ensures.next);
-      file = search rules;
-      unchanged = rw p.1 (search rules);
-    }
-
-pub returns : goal.returns
-returns c = record {
-  next = placed_next _ _ _ _ _ _ c.in_ok-frame.ensures.next c.in-Some.is c.in-Some-message_in.ensures.back refl;
-  file = search rules;
-  unchanged = tt;
-}
+pub returns-clause-next : goal.returns-clause-next
+returns-clause-next c =
+    let frame = c.in-Some.field-0 in
+    let said : c.message_in.result ≡ Some c.in_ok-message.message = search rules in
+    let says : Says frame.tag frame.value.now c.message_in.result = search rules in
+    placed_next _ _ _ _ frame _ c.in_ok-tag.ensures.next c.in-Some.is (subst (λ (o : Option Message). Says frame.tag frame.value.now o) said says) refl
