@@ -54,10 +54,8 @@ pub(crate) fn padded(file: &mut Vec<u8>, length: usize) -> Result<(), AllocError
 
 // Compares a file cut at every byte.
 pub(crate) fn cut(bench: &mut Bench<'_>, file: &[u8]) -> anyhow::Result<()> {
-    let mut left = file;
-    while let Some((_, shorter)) = left.split_last() {
-        let _line = compare_file(bench, shorter)?;
-        left = shorter;
+    for (length, _) in file.iter().enumerate() {
+        let _line = compare_file(bench, &file[..length])?;
     }
     Ok(())
 }

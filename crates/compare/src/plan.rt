@@ -11,8 +11,10 @@ pub(crate) struct Plan {
     pub(crate) base: u32,
     pub(crate) calls: Vec<Call>,
     pub(crate) closing: u32,
-    // what no file says: the buyers handed over later, where they are others than those filed, and the sizes of the places
-    pub(crate) others: Option<Vec<Buyer>>,
+    // what no file says: other buyers than those filed, whether they are the ones handed over later, and the sizes of the places.
+    // The mark stands by itself: buyers may be told of before it, and are handed over only where it is set.
+    pub(crate) others: Vec<Buyer>,
+    pub(crate) hands_others: bool,
     pub(crate) places: Places,
 }
 
@@ -34,7 +36,8 @@ impl Plan {
             base: 4_200,
             calls: Vec::new(heap),
             closing: 57_600,
-            others: None,
+            others: Vec::new(heap),
+            hands_others: false,
             places: Places {
                 records: 512,
                 fills: 512,
@@ -60,9 +63,10 @@ impl Plan {
 
     // The buyers that are handed over to calls and allotment.
     pub(crate) fn handed(&self) -> &[Buyer] {
-        match &self.others {
-            Some(others) => others.as_slice(),
-            None => self.buyers.as_slice(),
+        if self.hands_others {
+            self.others.as_slice()
+        } else {
+            self.buyers.as_slice()
         }
     }
 }

@@ -98,26 +98,21 @@ fn set(plan: &mut Plan, heap: Global, command: &Command<'_>) -> bool {
         "records" => plan.places.records = first as usize,
         "fills" => plan.places.fills = first as usize,
         "rows" => plan.places.rows = first as usize,
+        "others" => plan.hands_others = true,
         _ => return false,
     }
     true
 }
 
-// Adds what a line says: a buyer, or one handed over in place of those filed, or that others are, of whom none need follow.
-fn add_buyer(plan: &mut Plan, heap: Global, command: &Command<'_>) -> Result<bool, AllocError> {
+// Adds what a line says: a buyer, or one that may be handed over in place of those filed.
+fn add_buyer(plan: &mut Plan, command: &Command<'_>) -> Result<bool, AllocError> {
     let buyer = Buyer {
         account: command.field(0),
         lots: command.field(1),
     };
     match command.word {
         "buyer" => plan.buyers.push(buyer)?,
-        "other" => plan
-            .others
-            .get_or_insert_with(|| Vec::new(heap))
-            .push(buyer)?,
-        "others" => {
-            let _others = plan.others.get_or_insert_with(|| Vec::new(heap));
-        }
+        "other" => plan.others.push(buyer)?,
         _ => return Ok(false),
     }
     Ok(true)
@@ -140,5 +135,5 @@ pub(crate) fn build(
     plan: &mut Plan,
     command: &Command<'_>,
 ) -> Result<bool, AllocError> {
-    Ok(set(plan, heap, command) || add_buyer(plan, heap, command)? || add_call(plan, command)?)
+    Ok(set(plan, heap, command) || add_buyer(plan, command)? || add_call(plan, command)?)
 }

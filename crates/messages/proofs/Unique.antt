@@ -27,17 +27,17 @@ message_whole m rest fits = whole_frame tender_layouts (tag_of m) (length (value
 
 -- a message is read back from its tag and value
 message_there : (m : Message) → Fits m → message_of (tag_of m) (value_bytes m) ≡ Some m
-message_there (messages.Terms t) fits = ap (said messages.Terms) (terms_there t fits)
-message_there (messages.Buyer b) fits = ap (said messages.Buyer) (buyer_there b fits)
-message_there (messages.Draw d) fits = ap (said messages.Draw) (draw_there d fits)
+message_there (messages.Terms t) fits = ap (said messages.Terms) (terms_there t fits.unit fits.previous_close fits.bank_closing)
+message_there (messages.Buyer b) fits = ap (said messages.Buyer) (buyer_there b fits.account fits.lots)
+message_there (messages.Draw d) fits = ap (said messages.Draw) (draw_there d fits.stride fits.shift)
 message_there (messages.Open price) fits = ap (λ (n : ℕ). Some (messages.Open n)) (four_there price fits)
 message_there (messages.Close time) fits = ap (λ (n : ℕ). Some (messages.Close n)) (four_there time fits)
 message_there (messages.Call (calls.Enter e)) fits =
-    ap (said (λ x. messages.Call (calls.Enter x))) (entry_there e fits)
+    ap (said (λ x. messages.Call (calls.Enter x))) (entry_there e fits.member.0 fits.time fits.account fits.price fits.lots)
 message_there (messages.Call (calls.Change c)) fits =
-    ap (said (λ x. messages.Call (calls.Change x))) (change_there c fits)
+    ap (said (λ x. messages.Call (calls.Change x))) (change_there c fits.member.0 fits.time fits.number fits.price fits.lots)
 message_there (messages.Call (calls.Cancel c)) fits =
-    ap (said (λ x. messages.Call (calls.Cancel x))) (cancellation_there c fits)
+    ap (said (λ x. messages.Call (calls.Cancel x))) (cancellation_there c fits.member.0 fits.time fits.number)
 
 -- bytes that begin with two messages begin with one, and go on alike
 pub message_alone :

@@ -1,10 +1,13 @@
 // What several lists are asked.
 
-// Whether two of them have one key.
+// Whether two of them at different places have one key. It ends with the first that has another's.
 pub(crate) fn twice<T, F: Fn(&T) -> u32>(all: &[T], key: F) -> bool
     requires { (state : F) (x : _) → F.pre state x }
 {
-    all.iter().any(|one| all.iter().filter(|other| key(other) == key(one)).count() > 1)
+    all.iter().enumerate().any(|(i, one)| all
+        .iter()
+        .enumerate()
+        .any(|(j, other)| i != j && key(one) == key(other)))
 }
 
 // The lots of all.

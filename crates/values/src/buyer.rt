@@ -17,7 +17,7 @@ impl Value<8> for Buyer {
 
     ghost whole = { buyer_whole };
 
-    ghost there = { buyer_there };
+    ghost there = { λ b fits. buyer_there b fits.account fits.lots };
 
     ghost narrow = { lit≤ tt };
 

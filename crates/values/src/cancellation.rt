@@ -17,7 +17,7 @@ impl Value<10> for Cancellation {
 
     ghost whole = { cancellation_whole };
 
-    ghost there = { cancellation_there };
+    ghost there = { λ c fits. cancellation_there c fits.member.0 fits.time fits.number };
 
     ghost narrow = { lit≤ tt };
 

@@ -17,7 +17,7 @@ impl Value<18> for Change {
 
     ghost whole = { change_whole };
 
-    ghost there = { change_there };
+    ghost there = { λ c fits. change_there c fits.member.0 fits.time fits.number fits.price fits.lots };
 
     ghost narrow = { lit≤ tt };
 

@@ -23,7 +23,7 @@ impl Value<4> for DrawNumbers {
 
     ghost whole = { draw_whole };
 
-    ghost there = { draw_there };
+    ghost there = { λ d fits. draw_there d fits.stride fits.shift };
 
     ghost narrow = { lit≤ tt };
 

@@ -17,7 +17,7 @@ impl Value<20> for Entry {
 
     ghost whole = { entry_whole };
 
-    ghost there = { entry_there };
+    ghost there = { λ e fits. entry_there e fits.member.0 fits.time fits.account fits.price fits.lots };
 
     ghost narrow = { lit≤ tt };
 

@@ -17,7 +17,7 @@ impl Value<13> for Terms {
 
     ghost whole = { terms_whole };
 
-    ghost there = { terms_there };
+    ghost there = { λ t fits. terms_there t fits.unit fits.previous_close fits.bank_closing };
 
     ghost narrow = { lit≤ tt };
 
