@@ -1,6 +1,6 @@
 -- One turn of the loops over buyers and over calls.
-use Rattle.std.proofs.Common.{◌≡◌, ℕ, ◌+◌, ◌*◌, ◌<◌, ◌≤◌, false, List, [], ◌∷◌, ◌++◌, length, sym, refl, subst, arith}
-use Rattle.std.proofs.lemmas.List.{length-append}
+use Rattle.std.proofs.Common.{◌≡◌, ℕ, ◌+◌, ◌*◌, ◌<◌, ◌≤◌, false, List, [], ◌∷◌, ◌++◌, length, take, drop, set, sym, refl, subst, arith}
+use Rattle.std.proofs.lemmas.List.{length-append, take_more_set}
 use Rattle.stages.specs.declared.terms.Buyer.{Buyer}
 use Rattle.stages.specs.declared.terms.Terms.{Terms}
 use Rattle.book.specs.declared.call.Call.{Call}
@@ -13,7 +13,7 @@ use Rattle.messages.specs.Messages.{CallFits, Fits, message_bytes, tag_of}
 use Rattle.values.specs.Fields.{four_bytes, two_bytes}
 use Rattle.messages.specs.Reading.{MessageStands}
 use Rattle.faults.specs.declared.fault.OrderFault.TheVariants.{OutOfOrder}
-use Rattle.replay.specs.Files.{Leads}
+use Rattle.replay.specs.Files.{Leads, Reads}
 use Rattle.replay.specs.Reading.{Stops}
 use Rattle.replay.specs.Stages.{Stage, Step, in_order}
 use Rattle.replay.specs.Stages.Stage.{Filing, Running}
@@ -34,13 +34,13 @@ one_buyer ys file from at then p t bs b e f is few before v rest =
     before v (past file at then p _ _ (same ys file at then p e f) step v rest)
 
 -- one call more
-pub one_call : (ys file : List ℕ) (from at then : ℕ) (p : Placed) (t : Terms) (bs : List Buyer) (d : DrawNumbers) (base : ℕ) (cs : List Call) (c : Call) →
-    ys ≡ file → MessageStands ys at p then → p.message ≡ says.Call c →
-    Leads file from (Running t bs d base []) at (Running t bs d base cs) → Leads file from (Running t bs d base []) then (Running t bs d base (cs ++ c ∷ []))
-one_call ys file from at then p t bs d base cs c e f is before v rest =
-    let step : Step (Running t bs d base cs) p.message (Running t bs d base (cs ++ c ∷ [])) =
-    subst (λ m. Step (Running t bs d base cs) m (Running t bs d base (cs ++ c ∷ []))) (sym is) call in
-    before v (past file at then p _ _ (same ys file at then p e f) step v rest)
+pub one_call : (ys file : List ℕ) (from at then : ℕ) (p : Placed) (t : Terms) (bs : List Buyer) (d : DrawNumbers) (base : ℕ) (cs : List Call) (i : ℕ) (c : Call) →
+    ys ≡ file → MessageStands ys at p then → p.message ≡ says.Call c → i < length cs →
+    Leads file from (Running t bs d base []) at (Running t bs d base (take i cs)) → Leads file from (Running t bs d base []) then (Running t bs d base (take (i + 1) (set cs i c)))
+one_call ys file from at then p t bs d base cs i c e f is lt before v rest =
+    let step : Step (Running t bs d base (take i cs)) p.message (Running t bs d base (take i cs ++ c ∷ [])) =
+    subst (λ m. Step (Running t bs d base (take i cs)) m (Running t bs d base (take i cs ++ c ∷ []))) (sym is) call in
+    before v (past file at then p _ _ (same ys file at then p e f) step v (subst (λ zs. Reads (drop then file) then (Running t bs d base zs) v) (take_more_set cs i c lt) rest))
 
 -- a message out of order behind others that were taken
 pub stopped : (ys file : List ℕ) (from at then : ℕ) (p : Placed) (s s' : Stage) →

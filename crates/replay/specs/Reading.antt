@@ -1,5 +1,5 @@
 -- What each part of the reading promises: where the file is read on, and in which stage; or the fault that the file comes to.
-use Rattle.std.specs.Prelude.{◌≡◌, ℕ, ◌≤◌, false, List, [], length, drop, Ok, Err, Result}
+use Rattle.std.specs.Prelude.{◌≡◌, ℕ, ◌≤◌, false, List, [], length, take, drop, Ok, Err, Result}
 use Rattle.stages.specs.declared.terms.Buyer.{Buyer}
 use Rattle.stages.specs.declared.terms.Terms.{Terms}
 use Rattle.book.specs.declared.call.Call.{Call}
@@ -53,7 +53,9 @@ pub record Calls (file : List ℕ) (at : ℕ) (t : Terms) (bs : List Buyer) (d :
   pub found : MessageStands file place (record { place = place; message = says.Close closing }) then
 
 abbrev pub CallsRead : List ℕ → ℕ → List Call → Result Ending OrderFault → ℕ → Type 0
-CallsRead file at calls (Ok f) then = (t : Terms) (bs : List Buyer) (d : DrawNumbers) (base : ℕ) → Calls file at t bs d base calls f.closing f.place then
+CallsRead file at calls (Ok f) then =
+    (f.count ≤ length calls) ×
+    ((t : Terms) (bs : List Buyer) (d : DrawNumbers) (base : ℕ) → Calls file at t bs d base (take f.count calls) f.closing f.place then)
 CallsRead file at calls (Err e) then =
     (t : Terms) (bs : List Buyer) (d : DrawNumbers) (base : ℕ) → Stops file at (Running t bs d base []) e
 

@@ -89,28 +89,43 @@ pub(crate) fn read_base<'a>(reader: &mut MessageReader<'a>) -> Result<Opening, O
 // How many calls a file has room for: the shortest call has 13 of its 65,536 bytes.
 pub(crate) const CALLS: usize = 5_041;
 
-// A closing time, and where it stands.
+// What stands behind the opening beside the calls.
 #[derive(Clone, Copy)]
 pub struct Ending {
+    // how many calls
+    pub count: usize,
     pub closing: u32,
+    // where the closing stands
     pub place: usize,
 }
 
-// Reads the calls, and the closing behind them.
+// Reads the calls into the places lent, and the closing behind them. The places are an array and no `ArrayVec`, since an empty one of
+// this room takes its 121,112 bytes of stack twice, and copies them.
 pub(crate) fn read_calls<'a>(
     reader: &mut MessageReader<'a>,
-    calls: &mut ArrayVec<Call, CALLS>,
+    calls: &mut [Call],
 ) -> Result<Ending, OrderFault>
-    requires none { calls.old.items ≡ [] }
+    requires room { length calls.old ≡ 5041 }
     requires short { length (file_of reader.old) ≤ 65536 }
-    ensures read { CallsRead (file_of reader.old) (next_place reader.old) calls.new.items result (next_place reader.new) }
+    ensures read { CallsRead (file_of reader.old) (next_place reader.old) calls.new result (next_place reader.new) }
     ensures file { file_of reader.new ≡ file_of reader.old }
+    ensures room { length calls.new ≡ 5041 }
 {
+    let mut count = 0;
     loop {
         let Placed { place, message } = next(reader)?;
         match message {
-            Message::Call(call) => calls.push(call),
-            Message::Close(closing) => return Ok(Ending { closing, place }),
+            Message::Call(call) => {
+                calls[count] = call;
+                count += 1;
+            }
+            Message::Close(closing) => {
+                return Ok(Ending {
+                    count,
+                    closing,
+                    place,
+                });
+            }
             _ => return Err(OrderFault::OutOfOrder(place)),
         }
     }

@@ -6,10 +6,10 @@ ghost use Rattle.messages.specs.Reading.{file_of, next_place};
 ghost use Rattle.replay.specs.Heading.{Refused};
 ghost use Rattle.replay.specs.Running.{RunRead, RunStops, RunPromised};
 
-use super::reading::{read_calls, read_end};
+use super::reading::{CALLS, read_calls, read_end};
 use allotment::{BuyerRow, Sides};
 use arrayvec::ArrayVec;
-use book::Offer;
+use book::{Call, Offer};
 use faults::ProgramFault;
 use messages::MessageReader;
 use sharing::Draw;
@@ -72,10 +72,10 @@ pub(crate) fn run_open<'a, D: Draw + Copy + Drop>(
     ensures read { IfOk result (λ r. D.Draw.sound draw → RunRead (file_of reader.old) (next_place reader.old) (D.Draw.rank_of draw) tender buyers.now r) }
     ensures fault { IfErr result (λ e. RunStops (file_of reader.old) (next_place reader.old) tender buyers.now e) }
 {
-    let mut calls = ArrayVec::new();
+    let mut calls = [Call::default(); CALLS];
     let ending = read_calls(reader, &mut calls)?;
     let session = Session {
-        calls: calls.as_slice(),
+        calls: &calls[..ending.count],
         buyers,
         closing: ending.closing,
     };
