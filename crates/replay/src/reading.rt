@@ -99,8 +99,8 @@ pub struct Ending {
     pub place: usize,
 }
 
-// Reads the calls into the places lent, and the closing behind them. The places are an array and no `ArrayVec`, since an empty one of
-// this room takes its 121,112 bytes of stack twice, and copies them.
+// Reads the calls into the places lent, and the closing behind them. The places are an array and no `ArrayVec`: making an empty one of
+// this room takes the stack for it twice, and copies it.
 pub(crate) fn read_calls<'a>(
     reader: &mut MessageReader<'a>,
     calls: &mut [Call],
